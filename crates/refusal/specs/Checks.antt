@@ -1,14 +1,9 @@
 -- "Refusal numbers": the first check that applies is the answer, and what a refused call leaves.
 -- Assumes nothing.
 use Prim.Native.Nat.{ℕ}
-use mathlib.Core.Bool.{Bool, true, false}
+use mathlib.Core.Bool.{Bool, cond}
 use mathlib.Core.List.{List, [], _∷_}
 use lib.Dec.{eqb}
-
--- one of two, by a test
-abbrev pub pick : {A : Type 0} → Bool → A → A → A
-pick true a b = a
-pick false a b = b
 
 -- A check: whether it applies, and the number that it then gives. The checks of a call stand in the paper's order.
 abbrev pub Check : Type 0
@@ -17,12 +12,12 @@ Check = Bool × ℕ
 -- "the first that applies is the answer"; 0 where none does
 abbrev pub first : List Check → ℕ
 first [] = 0
-first (c ∷ cs) = pick (c .0) (c .1) (first cs)
+first (c ∷ cs) = cond (c .0) (c .1) (first cs)
 
 -- "A refusal returns its number and zero in every other part of the answer"
 abbrev pub told : List Check → ℕ → ℕ × ℕ
-told checks value = (first checks, pick (eqb (first checks) 0) value 0)
+told checks value = (first checks, cond (eqb (first checks) 0) value 0)
 
 -- "each lent buffer holds what it held": the new bytes where no check applies, else the old ones
 abbrev pub left : List Check → List ℕ → List ℕ → List ℕ
-left checks new old = pick (eqb (first checks) 0) new old
+left checks new old = cond (eqb (first checks) 0) new old

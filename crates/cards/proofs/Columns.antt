@@ -1,0 +1,39 @@
+-- A column has 256 numbers, each that of its address; and a row is what the card's three columns hold at its address.
+-- Assumes nothing.
+use Prim.Native.Nat.{ℕ, zero, suc, _+_, _<_}
+use native.Mathlib.Nat.{add-zero, zero-add, add-suc, suc-add, le-of-suc-le-suc, not-suc-le-zero}
+use mathlib.Core.Path.{_≡_, refl, sym, ap, _∙_}
+use mathlib.Core.List.{List}
+use lib.ListN.{length, getD}
+use Rattle.cards.specs.declared.Row.{Row}
+use Rattle.cards.specs.Rows.{Line, row, rowIn, run, column}
+
+run-length : (f : ℕ → ℕ) (first n : ℕ) → length (run f first n) ≡ n
+run-length f first zero = refl
+run-length f first (suc n) = ap suc (run-length f (suc first) n)
+
+run-at : (f : ℕ → ℕ) (first n k : ℕ) → k < n → getD (run f first n) k 0 ≡ f (first + k)
+run-at f first zero k h = absurd (not-suc-le-zero h)
+run-at f first (suc n) zero h = ap f (sym (add-zero first))
+run-at f first (suc n) (suc k) h =
+    run-at f (suc first) n k (le-of-suc-le-suc h) ∙ ap f (suc-add first k ∙ sym (add-suc first k))
+
+pub column-length : (f : ℕ → ℕ) → length (column f) ≡ 256
+unfolding column
+column-length f = run-length f 0 256
+
+pub column-at : (f : ℕ → ℕ) (address : ℕ) → address < 256 → getD (column f) address 0 ≡ f address
+unfolding column
+column-at f address h = run-at f 0 256 address h ∙ ap f (zero-add address)
+
+-- one of the card's three columns
+abbrev pub columnOf : (Row → ℕ) → List Line → List ℕ
+columnOf part lines = column (λ address. part (rowIn lines address))
+
+pub row-of-columns : (lines : List Line) (address : ℕ) → address < 256
+    → row (getD (columnOf (λ r. r .writable) lines) address 0) (getD (columnOf (λ r. r .clears) lines) address 0)
+    (getD (columnOf (λ r. r .«power_on») lines) address 0)
+    ≡ rowIn lines address
+row-of-columns lines address h =
+    rw
+    (column-at (λ a. rowIn lines a .writable) address h, column-at (λ a. rowIn lines a .clears) address h, column-at (λ a. rowIn lines a .«power_on») address h)

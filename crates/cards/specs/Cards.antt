@@ -1,0 +1,53 @@
+-- "The three parts and who decides": the chips, their numbers and their cards; and the contracts of `cards::chip_of` and `cards::row_of`.
+-- Assumes nothing.
+use Prim.Native.Nat.{ℕ}
+use mathlib.Core.Bool.{Bool, true, false, cond}
+use mathlib.Core.Path.{_≡_}
+use mathlib.Core.List.{List}
+use lib.Dec.{eqb}
+use Rattle.cards.specs.declared.Chip.{Chip}
+use Rattle.cards.specs.declared.Chip.the-variants.{Nct7802y, F75373s, Nct80}
+use Rattle.cards.specs.declared.Named.{Named}
+use Rattle.cards.specs.declared.Named.the-variants.{Known, Unknown}
+use Rattle.cards.specs.declared.Row.{Row}
+use Rattle.cards.specs.Rows.{Line, Required, rowIn, column}
+use Rattle.cards.specs.Nct7802y as nct7802y
+use Rattle.cards.specs.F75373s as f75373s
+use Rattle.cards.specs.Nct80 as nct80
+
+-- what the named chip gives, or what stands in where none is named
+abbrev pub whenKnown : {A : Type 0} → Named → (Chip → A) → A → A
+whenKnown (Known chip) f none = f chip
+whenKnown Unknown f none = none
+
+-- "Chip 1 is the Nuvoton NCT7802Y (source document 000), chip 2 the Fintek F75373S (002), chip 3 the onsemi NCT80 (004)."
+abbrev pub chipOf : ℕ → Named
+chipOf number =
+    cond (eqb number 1) (Known Nct7802y)
+    (cond (eqb number 2) (Known F75373s)
+    (cond (eqb number 3) (Known Nct80)
+    Unknown))
+
+-- refusal 3: "the chip number is not 1, 2 or 3"
+abbrev pub unknown : ℕ → Bool
+unknown number = whenKnown (chipOf number) (λ chip. false) true
+
+abbrev pub cardOf : Chip → List Line
+cardOf Nct7802y = nct7802y.card
+cardOf F75373s = f75373s.card
+cardOf Nct80 = nct80.card
+
+unfoldable pub rowOf : Chip → ℕ → Row
+rowOf chip address = rowIn (cardOf chip) address
+
+-- "Reset fills the image with the power-on column."
+unfoldable pub powerOn : Chip → List ℕ
+powerOn chip = column (λ address. rowOf chip address .«power_on»)
+
+-- what `cards::chip_of` promises
+pub record Names (number : ℕ) (named : Named) : Type 0 where
+  pub answer : named ≡ chipOf number
+
+-- what `cards::row_of` promises
+pub record Finds (chip : Chip) (address : ℕ) (row : Row) : Type 0 where
+  pub answer : row ≡ rowOf chip address

@@ -1,0 +1,5 @@
+pub mod Rows
+pub mod Nct7802y
+pub mod F75373s
+pub mod Nct80
+pub mod Cards

@@ -1,0 +1,32 @@
+-- "Register cards": what a card's lines say of each of the 256 addresses.
+-- Assumes nothing.
+use Prim.Native.Nat.{ℕ, zero, suc}
+use mathlib.Core.Bool.{cond}
+use mathlib.Core.List.{List, [], _∷_}
+use lib.Dec.{eqb}
+use Rattle.cards.specs.declared.Row.{Row}
+
+-- a register of the sheet: its address, its writable bits, its bits that clear on one, its power-on value
+abbrev pub Line : Type 0
+Line = ℕ × ℕ × ℕ × ℕ
+
+-- a register that identity looks at: its address, the bits that count, and what these hold
+abbrev pub Required : Type 0
+Required = ℕ × ℕ × ℕ
+
+abbrev pub row : ℕ → ℕ → ℕ → Row
+row writable clears power = record { writable = writable; clears = clears; «power_on» = power }
+
+-- "Addresses that a sheet doesn't list or reserves have both masks 00h and power-on 00h"
+abbrev pub rowIn : List Line → ℕ → Row
+rowIn [] address = row 0x00 0x00 0x00
+rowIn (l ∷ ls) address = cond (eqb (l .0) address) (row (l .1) (l .2) (l .3)) (rowIn ls address)
+
+-- a number for each of n addresses, from the first one on
+abbrev pub run : (ℕ → ℕ) → ℕ → ℕ → List ℕ
+run f first zero = []
+run f first (suc n) = f first ∷ run f (suc first) n
+
+-- a number for "each of the 256 addresses"
+unfoldable pub column : (ℕ → ℕ) → List ℕ
+column f = run f 0 256

@@ -1,0 +1,6 @@
+pub mod Digits
+pub mod Masks
+pub mod Filling
+pub mod Laws
+pub mod Kept
+pub mod Unique

@@ -1,0 +1,39 @@
+-- No second answer of a call on an image meets its contract, and no other bytes: what an answer tells is told by no other answer.
+-- Assumes nothing.
+use Prim.Native.Nat.{ℕ}
+use native.Mathlib.Omega.{arith}
+use mathlib.Core.Path.{_≡_, refl, sym, ap, _∙_}
+use mathlib.Core.List.{List}
+use Rattle.refusal.proofs.Numbers.{numberOf-injective, numberOf-positive}
+use Rattle.images.specs.declared.Outcome.{Outcome}
+use Rattle.images.specs.declared.Outcome.the-variants as outcome
+use Rattle.images.specs.declared.ByteRead.{ByteRead}
+use Rattle.images.specs.declared.ByteRead.the-variants as byteRead
+use Rattle.images.specs.Images.{tells, tellsByte, Writes, Reads, Resets, Confirms}
+
+pub tells-injective : (r s : Outcome) → tells r ≡ tells s → r ≡ s
+tells-injective outcome.Accepted outcome.Accepted e = refl
+tells-injective outcome.Accepted (outcome.Refused q) e = absurd (omega (arith, numberOf-positive q))
+tells-injective (outcome.Refused p) outcome.Accepted e = absurd (omega (arith, numberOf-positive p))
+tells-injective (outcome.Refused p) (outcome.Refused q) e = ap outcome.Refused (numberOf-injective p q e)
+
+pub tellsByte-injective : (r s : ByteRead) → tellsByte r ≡ tellsByte s → r ≡ s
+tellsByte-injective (byteRead.Byte b) (byteRead.Byte d) e = ap byteRead.Byte (ap (λ (t : ℕ × ℕ). t .1) e)
+tellsByte-injective (byteRead.Byte b) (byteRead.Refused q) e = absurd (omega (arith, numberOf-positive q, ap (λ (t : ℕ × ℕ). t .0) e))
+tellsByte-injective (byteRead.Refused p) (byteRead.Byte d) e = absurd (omega (arith, numberOf-positive p, ap (λ (t : ℕ × ℕ). t .0) e))
+tellsByte-injective (byteRead.Refused p) (byteRead.Refused q) e = ap byteRead.Refused (numberOf-injective p q (ap (λ (t : ℕ × ℕ). t .0) e))
+
+pub writes-unique : {chip : ℕ} {old : List ℕ} {address byte : ℕ} {r s : Outcome} {l m : List ℕ}
+    → Writes chip old address byte r l → Writes chip old address byte s m → (r ≡ s) × (l ≡ m)
+writes-unique {r = r} {s = s} p q = (tells-injective r s (p .answer ∙ sym (q .answer)), p .bytes ∙ sym (q .bytes))
+
+pub reads-unique : {chip : ℕ} {image : List ℕ} {address : ℕ} {r s : ByteRead}
+    → Reads chip image address r → Reads chip image address s → r ≡ s
+reads-unique {r = r} {s = s} p q = tellsByte-injective r s (p .answer ∙ sym (q .answer))
+
+pub resets-unique : {chip : ℕ} {old : List ℕ} {r s : Outcome} {l m : List ℕ}
+    → Resets chip old r l → Resets chip old s m → (r ≡ s) × (l ≡ m)
+resets-unique {r = r} {s = s} p q = (tells-injective r s (p .answer ∙ sym (q .answer)), p .bytes ∙ sym (q .bytes))
+
+pub confirms-unique : {chip : ℕ} {image : List ℕ} {r s : Outcome} → Confirms chip image r → Confirms chip image s → r ≡ s
+confirms-unique {r = r} {s = s} p q = tells-injective r s (p .answer ∙ sym (q .answer))

@@ -1,0 +1,59 @@
+-- `images::power_on_image` meets its contract: the places passed hold the power-on values of their rows.
+-- Assumes nothing.
+use Rattle.images.proofs.Filling.{Filled, filled-none, filled-more, filled-all}
+use Rattle.cards.proofs.Columns.{column-length, column-at}
+use Rattle.cards.specs.Cards.{rowOf, powerOn}
+use Rattle.cards.specs.declared.Row.{Row}
+use Prim.Native.Nat.{_-_}
+use mathlib.Core.Path.{refl, ap}
+use borrow.Author.Needs.{needs}
+use Rattle.images.proofs.power_on_image.Statement.{statement}
+use Rattle.images.proofs.power_on_image.Tie as tie
+
+abbrev Inv-loop : tie.InvT-loop
+Inv-loop chip working₀ at₀ working at = Filled (λ k. rowOf chip k .«power_on») 256 working at
+
+abbrev μ-loop : tie.MeasureT-loop
+μ-loop chip working₀ at₀ working at = 256 - at
+
+loop-holds : tie.Need-loop-holds Inv-loop μ-loop
+loop-holds c = filled-none _ _ _ refl
+
+cast-row-of : tie.Need-cast-row-of Inv-loop μ-loop
+cast-row-of c = search needs
+
+row-of-requires : tie.Need-row-of-requires Inv-loop μ-loop
+row-of-requires c κs = search needs
+
+array-write-working : tie.Need-array-write-working Inv-loop μ-loop
+array-write-working c = search needs
+
+add-at : tie.Need-add-at Inv-loop μ-loop
+add-at c = search needs
+
+loop-less : tie.Need-loop-less Inv-loop μ-loop
+loop-less c = search needs
+
+loop-again : tie.Need-loop-again Inv-loop μ-loop
+loop-again c =
+    filled-more _ (c .before .before .loop .inv) (c .before .loop-test .taken) (ap (λ (r : Row). r .«power_on») (c .row-of .ensures .answer))
+
+returns : tie.Need-returns Inv-loop μ-loop
+unfolding powerOn
+returns c =
+    filled-all (c .before .loop .inv) (c .loop-test .left) (powerOn (c .before .before .args .chip)) (column-length _) (column-at _)
+
+pub power-on-image-spec : {M : Type 1} → statement M
+power-on-image-spec =
+    tie.close
+    (tie.spec
+    Inv-loop
+    μ-loop
+    loop-holds
+    cast-row-of
+    row-of-requires
+    array-write-working
+    add-at
+    loop-less
+    loop-again
+    returns)

@@ -1,0 +1,60 @@
+-- `images::reset` meets its contract: each answer knows which chip the number names and how long the image is; the working image is the power-on column.
+-- Assumes nothing.
+use mathlib.Core.Path.{sym, _∙_}
+use borrow.Author.Tests.{eq-eqb, ne-eqb}
+use borrow.Author.Needs.{needs}
+use Rattle.images.proofs.reset.Statement.{statement}
+use Rattle.images.proofs.reset.Tie as tie
+
+chip-of-requires : tie.Need-chip-of-requires
+chip-of-requires c κs = search needs
+
+enum-told : tie.Need-enum-told
+enum-told c = search needs
+
+enum-known-known : tie.Need-enum-known-known
+enum-known-known c = search needs
+
+returns : tie.Need-returns
+returns c =
+    let e = sym (c .before .before .before .before .chip-of .ensures .answer) ∙ c .before .before .known .given .1 in
+    let short = ne-eqb _ _ (c .if1 .taken) in
+    record { answer = simp (e, short); bytes = simp (e, short) }
+
+power-on-image-requires : tie.Need-power-on-image-requires
+power-on-image-requires c κs = search needs
+
+copy-requires : tie.Need-copy-requires
+copy-requires c κs = search needs
+
+returns-2 : tie.Need-returns-2
+returns-2 c =
+    let e = sym (c .before .before .chip-of .ensures .answer) ∙ c .enum-told .given .1 in
+    record { answer = simp e; bytes = simp e }
+
+same-length : tie.Need-same-length
+same-length c = search needs
+
+returns-3 : tie.Need-returns-3
+returns-3 c =
+    let k = c .before .before .before .before .before in
+    let e = sym (k .before .before .before .before .chip-of .ensures .answer) ∙ k .before .before .known .given .1 in
+    let long = eq-eqb _ _ (k .if1 .left) in
+    record {
+      answer = simp (e, long);
+      bytes = simp (e, long, c .before .before .copy .ensures, c .before .before .before .before .power-on-image .ensures);
+    }
+
+pub reset-spec : {M : Type 1} → statement M
+reset-spec =
+    tie.close
+    (tie.spec
+    chip-of-requires
+    enum-told
+    enum-known-known
+    returns
+    power-on-image-requires
+    copy-requires
+    returns-2
+    same-length
+    returns-3)

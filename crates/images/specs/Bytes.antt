@@ -1,0 +1,31 @@
+-- "Register cards": what a byte write stores, bit by bit.
+-- Assumes nothing.
+use Prim.Native.Nat.{ℕ, zero, suc, _+_, _*_, _/_, _%_}
+use mathlib.Core.Bool.{cond, _&&_}
+use mathlib.Core.List.{List}
+use lib.Dec.{eqb}
+use lib.ListN.{getD, set}
+use Rattle.cards.specs.declared.Chip.{Chip}
+use Rattle.cards.specs.declared.Row.{Row}
+use Rattle.cards.specs.Cards.{rowOf}
+
+-- "A byte write to an address replaces the writable bits, clears those clear bits where a 1 is written, and keeps the others."
+abbrev pub storedBit : ℕ → ℕ → ℕ → ℕ → ℕ
+storedBit writable clears old new = cond (eqb writable 1) new (cond (eqb clears 1 && eqb new 1) 0 old)
+
+-- n bits of it, the lowest last
+abbrev pub storedBits : ℕ → ℕ → ℕ → ℕ → ℕ → ℕ
+storedBits zero writable clears old new = 0
+storedBits (suc n) writable clears old new =
+    storedBits n (writable / 2) (clears / 2) (old / 2) (new / 2) * 2 + storedBit (writable % 2) (clears % 2) (old % 2) (new % 2)
+
+unfoldable pub stored : Row → ℕ → ℕ → ℕ
+stored row old new = storedBits 8 (row .writable) (row .clears) old new
+
+-- "Every other address keeps its byte": a write at a position of the image, by the row of that position
+unfoldable pub storedAt : Row → ℕ → ℕ → List ℕ → List ℕ
+storedAt row position byte image = set image position (stored row (getD image position 0) byte)
+
+-- where a bus write lands: the position is the address
+abbrev pub written : Chip → ℕ → ℕ → List ℕ → List ℕ
+written chip address byte image = storedAt (rowOf chip address) address byte image

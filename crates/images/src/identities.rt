@@ -1,0 +1,54 @@
+// The identity of each chip, all of its bits. Early answers, so that each register that is used stands on a line of its own.
+use cards::Chip;
+ghost use mathlib.Core.Path.{_≡_};
+ghost use lib.ListN.{length};
+ghost use Rattle.cards.specs.Nct7802y as nct7802y;
+ghost use Rattle.cards.specs.F75373s as f75373s;
+ghost use Rattle.images.specs.Identity.{allHold, confirmed};
+
+fn is_nct7802y(image: &[u8]) -> bool
+    requires { ⌜ length (now image) ≡ 256 ⌝ }
+    ensures { λ r. ⌜ r ≡ allHold (now (image .entry)) nct7802y.identity ⌝ }
+{
+    if image[0xFD] & 0xFF != 0x50 {
+        return false;
+    }
+    if image[0xFE] & 0xFF != 0xC3 {
+        return false;
+    }
+    if image[0xFF] & 0xF0 != 0x20 {
+        return false;
+    }
+    if image[0x05] & 0x1F != 0x00 {
+        return false;
+    }
+    image[0x08] & 0x3F == 0x00
+}
+
+fn is_f75373s(image: &[u8]) -> bool
+    requires { ⌜ length (now image) ≡ 256 ⌝ }
+    ensures { λ r. ⌜ r ≡ allHold (now (image .entry)) f75373s.identity ⌝ }
+{
+    if image[0x5A] & 0xFF != 0x02 {
+        return false;
+    }
+    if image[0x5B] & 0xFF != 0x04 {
+        return false;
+    }
+    if image[0x5D] & 0xFF != 0x19 {
+        return false;
+    }
+    image[0x5E] & 0xFF == 0x34
+}
+
+// No identity is known of the NCT80, so none is confirmed.
+pub fn confirmed(chip: Chip, image: &[u8]) -> bool
+    requires { ⌜ length (now image) ≡ 256 ⌝ }
+    ensures { λ r. ⌜ r ≡ confirmed chip (now (image .entry)) ⌝ }
+{
+    match chip {
+        Chip::Nct7802y => is_nct7802y(image),
+        Chip::F75373s => is_f75373s(image),
+        Chip::Nct80 => false,
+    }
+}

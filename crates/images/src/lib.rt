@@ -1,0 +1,113 @@
+// A register image of a chip, lent by the caller: written, read, reset, and asked whose it is.
+mod bytes;
+mod identities;
+
+use cards::Chip;
+use cards::Named;
+use refusal::Refusal;
+ghost use mathlib.Core.Path.{_≡_};
+ghost use lib.ListN.{length};
+ghost use Rattle.cards.specs.Cards.{powerOn};
+ghost use Rattle.images.specs.Images.{Writes, Reads, Resets, Confirms};
+
+pub enum Outcome {
+    Accepted,
+    Refused(Refusal),
+}
+
+pub enum ByteRead {
+    Byte(u8),
+    Refused(Refusal),
+}
+
+// Writes a byte to an address of the image, as far as the chip's card lets it be written.
+pub fn write(chip: u8, image: &mut [u8], address: u8, byte: u8) -> Outcome
+    ensures { λ r. ⌜ Writes chip (now (image .entry)) address byte r (now (image .exit)) ⌝ }
+{
+    match cards::chip_of(chip) {
+        Named::Unknown => Outcome::Refused(Refusal::NoSuchChip),
+        Named::Known(known) => {
+            if image.len() != 256 {
+                return Outcome::Refused(Refusal::NotAnImage);
+            }
+            let row = cards::row_of(known, address);
+            let at = address as usize;
+            let old = image[at];
+            image[at] = bytes::stored(row, old, byte);
+            Outcome::Accepted
+        }
+    }
+}
+
+// The byte at an address of the image.
+pub fn read(chip: u8, image: &[u8], address: u8) -> ByteRead
+    ensures { λ r. ⌜ Reads chip (now (image .entry)) address r ⌝ }
+{
+    match cards::chip_of(chip) {
+        Named::Unknown => ByteRead::Refused(Refusal::NoSuchChip),
+        Named::Known(_) => {
+            if image.len() != 256 {
+                return ByteRead::Refused(Refusal::NotAnImage);
+            }
+            let at = address as usize;
+            ByteRead::Byte(image[at])
+        }
+    }
+}
+
+// The power-on column of a chip's card, filled into a working image.
+fn power_on_image(chip: Chip) -> [u8; 256]
+    ensures { λ r. ⌜ r ≡ powerOn chip ⌝ }
+{
+    let mut working = [0u8; 256];
+    for at in 0..256 {
+        let row = cards::row_of(chip, at as u8);
+        working[at] = row.power_on;
+    }
+    working
+}
+
+fn copy(image: &mut [u8], working: [u8; 256])
+    requires { ⌜ length (now image) ≡ 256 ⌝ }
+    ensures { λ r. ⌜ now (image .exit) ≡ working ⌝ }
+{
+    for at in 0..256 {
+        image[at] = working[at];
+    }
+}
+
+// Fills the image with the chip's power-on values.
+pub fn reset(chip: u8, image: &mut [u8]) -> Outcome
+    ensures { λ r. ⌜ Resets chip (now (image .entry)) r (now (image .exit)) ⌝ }
+{
+    match cards::chip_of(chip) {
+        Named::Unknown => Outcome::Refused(Refusal::NoSuchChip),
+        Named::Known(known) => {
+            if image.len() != 256 {
+                return Outcome::Refused(Refusal::NotAnImage);
+            }
+            let working = power_on_image(known);
+            copy(image, working);
+            Outcome::Accepted
+        }
+    }
+}
+
+// Whether the image is the chip's, by every bit that its identity names.
+pub fn identity(chip: u8, image: &[u8]) -> Outcome
+    ensures { λ r. ⌜ Confirms chip (now (image .entry)) r ⌝ }
+{
+    match cards::chip_of(chip) {
+        Named::Unknown => Outcome::Refused(Refusal::NoSuchChip),
+        Named::Known(known) => {
+            if image.len() != 256 {
+                return Outcome::Refused(Refusal::NotAnImage);
+            }
+            if identities::confirmed(known, image) {
+                Outcome::Accepted
+            } else {
+                Outcome::Refused(Refusal::IdentityNotConfirmed)
+            }
+        }
+    }
+}
