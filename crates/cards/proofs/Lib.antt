@@ -1,4 +1,5 @@
 pub mod Columns
 pub mod Apart
+pub mod Fixed
 pub mod FixedPoints
 pub mod Unique

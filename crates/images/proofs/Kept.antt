@@ -1,15 +1,17 @@
--- Identity: a reset image is confirmed, and no write changes what identity sees, since no card lets an identity bit be written or cleared.
+-- Identity is kept: a reset image is confirmed, and no write changes what identity sees, since no card lets an identity bit be written or cleared.
 -- Assumes nothing.
 use Prim.Native.Nat.{ℕ, zero, suc, _+_, _*_, _/_, _%_, _^_, _<_, min}
-use native.Mathlib.Nat.{pow-suc}
+use native.Mathlib.Nat.{pow-suc, min-zero}
 use native.Mathlib.Omega.{arith}
-use mathlib.Core.Path.{_≡_, refl, sym, ap, ap₂, _∙_}
-use mathlib.Core.Bool.{Bool, true, false, So, not, _&&_, _||_, and-eq-true-iff}
+use mathlib.Core.Path.{_≡_, refl, sym, ap, ap₂, subst, _∙_}
+use mathlib.Core.Bool.{Bool, true, false, So, cond, _&&_, and-eq-true-iff}
 use mathlib.Core.List.{List, [], _∷_}
-use borrow.Author.Tests.{eqb-true, eq-eqb}
-use lib.Bits.{bitAnd, and-step}
-use lib.Dec.{eqb}
-use lib.ListN.{getD, set}
+use borrow.Author.Tests.{eqb-true, eqb-false, ltb-true, ltb-false}
+use lib.Arith.{lt-one}
+use lib.Bits.{bitAnd, and-step, and-zero-r}
+use lib.Dec.{eqb, ltb}
+use lib.ListN.{length, getD, set}
+use lib.Seq.{getD-set-same, set-out}
 use Rattle.cards.specs.declared.Chip.{Chip}
 use Rattle.cards.specs.declared.Chip.the-variants.{Nct7802y, F75373s, Nct80}
 use Rattle.cards.specs.declared.Row.{Row}
@@ -17,12 +19,111 @@ use Rattle.cards.specs.Rows.{Required, column}
 use Rattle.cards.specs.Cards.{rowOf, powerOn}
 use Rattle.cards.specs.Nct7802y as nct7802y
 use Rattle.cards.specs.F75373s as f75373s
-use Rattle.cards.specs.Nct80 as nct80
+use Rattle.cards.proofs.Fixed.{fixed, allFixed, nct7802y-fixed, f75373s-fixed}
 use Rattle.images.specs.Bytes.{storedBit, storedBits, stored, storedAt, written}
 use Rattle.images.specs.Identity.{holds, allHold, confirmed}
-use Rattle.images.proofs.Digits.{bit, every, of-every, digit}
+use Rattle.images.proofs.Digits.{bit, digit}
+use Rattle.images.proofs.Laws.{storedAt-other}
 
--- "Reset fills the image with the power-on column", which chips 1 and 2 confirm as theirs
+-- the power-on column is one that chips 1 and 2 confirm as theirs
 pub reset-confirmed : So (confirmed Nct7802y (powerOn Nct7802y) && confirmed F75373s (powerOn F75373s))
 unfolding confirmed powerOn column rowOf nct7802y.card f75373s.card
 reset-confirmed = refl
+
+-- a bit that counts, and is neither writable nor a clear bit, is kept; one that does not count does not matter
+kept-bit : (w c m : Bool) (o x : ℕ) → min (bit w) (bit m) ≡ 0 → min (bit c) (bit m) ≡ 0
+    → min (storedBit (bit w) (bit c) o x) (bit m) ≡ min o (bit m)
+kept-bit w c false o x p q = min-zero (storedBit (bit w) (bit c) o x) ∙ sym (min-zero o)
+kept-bit false false true o x p q = refl
+kept-bit true c true o x p q = absurd (omega arith)
+kept-bit false true true o x p q = absurd (omega arith)
+
+kept-digit : (w c m o x : ℕ) → min (w % 2) (m % 2) ≡ 0 → min (c % 2) (m % 2) ≡ 0
+    → min (storedBit (w % 2) (c % 2) o x) (m % 2) ≡ min o (m % 2)
+kept-digit w c m o x =
+    digit (λ w'. min w' (m % 2) ≡ 0 → min (c % 2) (m % 2) ≡ 0 → min (storedBit w' (c % 2) o x) (m % 2) ≡ min o (m % 2))
+    (λ wb. digit (λ c'. min (bit wb) (m % 2) ≡ 0 → min c' (m % 2) ≡ 0 → min (storedBit (bit wb) c' o x) (m % 2) ≡ min o (m % 2))
+    (λ cb. digit (λ m'. min (bit wb) m' ≡ 0 → min (bit cb) m' ≡ 0 → min (storedBit (bit wb) (bit cb) o x) m' ≡ min o m')
+    (λ mb. kept-bit wb cb mb o x) m) c) w
+
+one-bit : (w c o x : ℕ) → o < 2 → x < 2 → storedBit w c o x < 2
+one-bit w c o x p q = one-of (eqb w 1) (eqb c 1 && eqb x 1)
+  where
+    one-of : (s t : Bool) → cond s x (cond t 0 o) < 2
+    one-of true t = q
+    one-of false true = omega arith
+    one-of false false = p
+
+-- of n bits, those that count are kept where none of them is writable or a clear bit
+kept-bits : (n w c m o x : ℕ) → m < 2 ^ n → bitAnd w m ≡ 0 → bitAnd c m ≡ 0 → bitAnd (storedBits n w c o x) m ≡ bitAnd o m
+kept-bits zero w c m o x h p q =
+    ap (bitAnd 0) (lt-one h) ∙ and-zero-r 0 ∙ sym (ap (bitAnd o) (lt-one h) ∙ and-zero-r o)
+kept-bits (suc n) w c m o x h p q =
+    let pw : bitAnd (w / 2) (m / 2) * 2 + min (w % 2) (m % 2) ≡ 0 = sym (and-step w m) ∙ p in
+    let pc : bitAnd (c / 2) (m / 2) * 2 + min (c % 2) (m % 2) ≡ 0 = sym (and-step c m) ∙ q in
+    let small : storedBit (w % 2) (c % 2) (o % 2) (x % 2) < 2 = one-bit (w % 2) (c % 2) (o % 2) (x % 2) (omega arith) (omega arith) in
+    let half : storedBits (suc n) w c o x / 2 ≡ storedBits n (w / 2) (c / 2) (o / 2) (x / 2) = omega arith in
+    let last : storedBits (suc n) w c o x % 2 ≡ storedBit (w % 2) (c % 2) (o % 2) (x % 2) = omega arith in
+    let less : m / 2 < 2 ^ n = omega (arith, rw pow-suc at h) in
+    and-step (storedBits (suc n) w c o x) m
+    ∙ ap₂ (λ (a b : ℕ). a * 2 + b)
+    (ap (λ (y : ℕ). bitAnd y (m / 2)) half ∙ kept-bits n (w / 2) (c / 2) (m / 2) (o / 2) (x / 2) less (omega arith) (omega arith))
+    (ap (λ (y : ℕ). min y (m % 2)) last ∙ kept-digit w c m (o % 2) (x % 2) (omega arith) (omega arith))
+    ∙ sym (and-step o m)
+
+kept-byte : (row : Row) (bits old byte : ℕ) → So (fixed row bits) → bitAnd (stored row old byte) bits ≡ bitAnd old bits
+unfolding stored
+kept-byte row bits old byte t =
+    let parts = and-eq-true-iff (ltb bits (2 ^ 8)) (eqb (bitAnd (row .writable) bits) 0 && eqb (bitAnd (row .clears) bits) 0) .0 t in
+    let masks = and-eq-true-iff (eqb (bitAnd (row .writable) bits) 0) (eqb (bitAnd (row .clears) bits) 0) .0 (parts .1) in
+    kept-bits 8 (row .writable) (row .clears) bits old byte (ltb-true bits (2 ^ 8) (parts .0))
+    (eqb-true (bitAnd (row .writable) bits) 0 (masks .0)) (eqb-true (bitAnd (row .clears) bits) 0 (masks .1))
+
+-- a write at a position keeps what identity sees at that position ..
+seen-there : (row : Row) (position byte : ℕ) (image : List ℕ) (bits : ℕ) → So (fixed row bits)
+    → bitAnd (getD (storedAt row position byte image) position 0) bits ≡ bitAnd (getD image position 0) bits
+unfolding storedAt
+seen-there row position byte image bits t = by-place (ltb position (length image)) refl
+  where
+    new : ℕ
+    new = stored row (getD image position 0) byte
+
+    by-place : (inside : Bool) → ltb position (length image) ≡ inside
+        → bitAnd (getD (set image position new) position 0) bits ≡ bitAnd (getD image position 0) bits
+    by-place true e =
+        ap (λ (y : ℕ). bitAnd y bits) (getD-set-same image position new 0 (ltb-true position (length image) e))
+        ∙ kept-byte row bits (getD image position 0) byte t
+    by-place false e = ap (λ (l : List ℕ). bitAnd (getD l position 0) bits) (set-out image position new (ltb-false position (length image) e))
+
+-- .. and at every other
+seen : (row : Row) (position byte : ℕ) (image : List ℕ) (address bits : ℕ) → (address ≡ position → So (fixed row bits))
+    → bitAnd (getD (storedAt row position byte image) address 0) bits ≡ bitAnd (getD image address 0) bits
+seen row position byte image address bits t = by-place (eqb address position) refl
+  where
+    by-place : (there : Bool) → eqb address position ≡ there
+        → bitAnd (getD (storedAt row position byte image) address 0) bits ≡ bitAnd (getD image address 0) bits
+    by-place true e =
+        let same = eqb-true address position e in
+        rw same (seen-there row position byte image bits (t same))
+    by-place false e =
+        ap (λ (y : ℕ). bitAnd y bits) (storedAt-other row position byte image address (eqb-false address position e))
+
+-- the test over a chip's identity, carried to every write
+kept : (chip : Chip) (address byte : ℕ) (image : List ℕ) (rs : List Required) → So (allFixed chip rs)
+    → allHold (written chip address byte image) rs ≡ allHold image rs
+kept chip address byte image [] t = refl
+kept chip address byte image (r ∷ rs) t =
+    let parts = and-eq-true-iff (fixed (rowOf chip (r .0)) (r .1)) (allFixed chip rs) .0 t in
+    ap₂ _&&_
+    (ap (λ (y : ℕ). eqb y (r .2))
+    (seen (rowOf chip address) address byte image (r .0) (r .1)
+    (λ e. subst (λ (a : ℕ). So (fixed (rowOf chip a) (r .1))) e (parts .0))))
+    (kept chip address byte image rs (parts .1))
+
+-- no write changes what identity sees
+pub write-keeps-identity : (chip : Chip) (address byte : ℕ) (image : List ℕ)
+    → confirmed chip (written chip address byte image) ≡ confirmed chip image
+unfolding confirmed
+write-keeps-identity Nct7802y address byte image = kept Nct7802y address byte image nct7802y.identity nct7802y-fixed
+write-keeps-identity F75373s address byte image = kept F75373s address byte image f75373s.identity f75373s-fixed
+write-keeps-identity Nct80 address byte image = refl

@@ -60,9 +60,9 @@ fn power_on_image(chip: Chip) -> [u8; 256]
     ensures { λ r. ⌜ r ≡ powerOn chip ⌝ }
 {
     let mut working = [0u8; 256];
-    for at in 0..256 {
-        let row = cards::row_of(chip, at as u8);
-        working[at] = row.power_on;
+    for address in 0..256 {
+        let row = cards::row_of(chip, address as u8);
+        working[address] = row.power_on;
     }
     working
 }

@@ -30,13 +30,13 @@ loop-less : tie.Need-loop-less Inv-loop μ-loop
 loop-less c = search needs
 
 loop-again : tie.Need-loop-again Inv-loop μ-loop
-loop-again c = filled-more _ (c .before .loop .inv) (c .loop-test .taken) refl
+loop-again c = filled-more _ (c .before .loop .inv) (search needs) refl
 
 same-length : tie.Need-same-length Inv-loop μ-loop
 same-length c = search needs
 
 returns : tie.Need-returns Inv-loop μ-loop
-returns c = filled-all (c .before .loop .inv) (c .loop-test .left) _ (search needs) (λ k h. refl)
+returns c = filled-all (c .before .loop .inv) (search needs) _ (search needs) (λ k h. refl)
 
 pub copy-spec : {M : Type 1} → statement M
 copy-spec =

@@ -11,10 +11,10 @@ use Rattle.images.proofs.power_on_image.Statement.{statement}
 use Rattle.images.proofs.power_on_image.Tie as tie
 
 abbrev Inv-loop : tie.InvT-loop
-Inv-loop chip working₀ at₀ working at = Filled (λ k. rowOf chip k .«power_on») 256 working at
+Inv-loop chip working₀ address₀ working address = Filled (λ k. rowOf chip k .«power_on») 256 working address
 
 abbrev μ-loop : tie.MeasureT-loop
-μ-loop chip working₀ at₀ working at = 256 - at
+μ-loop chip working₀ address₀ working address = 256 - address
 
 loop-holds : tie.Need-loop-holds Inv-loop μ-loop
 loop-holds c = filled-none _ _ _ refl
@@ -28,8 +28,8 @@ row-of-requires c κs = search needs
 array-write-working : tie.Need-array-write-working Inv-loop μ-loop
 array-write-working c = search needs
 
-add-at : tie.Need-add-at Inv-loop μ-loop
-add-at c = search needs
+add-address : tie.Need-add-address Inv-loop μ-loop
+add-address c = search needs
 
 loop-less : tie.Need-loop-less Inv-loop μ-loop
 loop-less c = search needs
@@ -53,7 +53,7 @@ power-on-image-spec =
     cast-row-of
     row-of-requires
     array-write-working
-    add-at
+    add-address
     loop-less
     loop-again
     returns)
