@@ -7,8 +7,8 @@ use mathlib.Core.List.{List, [], _∷_, _++_}
 use lib.Dec.{eqb}
 use Rattle.cards.specs.declared.Chip.{Chip}
 use Rattle.cards.specs.declared.Chip.the-variants.{Nct7802y, F75373s, Nct80}
-use Rattle.cards.specs.Rows.{run}
-use Rattle.cards.specs.Cards.{rowOf}
+use Rattle.cards.specs.Rows.{Table}
+use Rattle.cards.specs.Cards.{rowOf, tablesOf}
 use Rattle.cards.specs.Nct7802y as nct7802y
 use Rattle.cards.specs.F75373s as f75373s
 use Rattle.cards.specs.Nct80 as nct80
@@ -27,12 +27,13 @@ abbrev power : Chip → ℕ → ℕ
 power chip address = rowOf chip address .«power_on»
 
 -- "All fan table registers have mask FFh"
-abbrev table : Chip → List ℕ → List Point
-table chip [] = []
-table chip (a ∷ rest) = (writable chip a, 0xFF) ∷ table chip rest
+abbrev masks : Chip → List ℕ → List Point
+masks chip [] = []
+masks chip (a ∷ rest) = (writable chip a, 0xFF) ∷ masks chip rest
 
-abbrev from : ℕ → ℕ → List ℕ
-from first n = run (λ a. a) first n
+abbrev tableMasks : Chip → List Table → List Point
+tableMasks chip [] = []
+tableMasks chip (t ∷ ts) = masks chip (t .settings ++ t .speeds) ++ tableMasks chip ts
 
 unfoldable pub points : List Point
 points =
@@ -50,7 +51,7 @@ points =
     -- "Chip 3, 00h mask FFh, power-on 08h; 01h read only; 09h mask 07h"
     ∷ (writable Nct80 0x00, 0xFF) ∷ (power Nct80 0x00, 0x08) ∷ (writable Nct80 0x01, 0x00) ∷ (clears Nct80 0x01, 0x00)
     ∷ (writable Nct80 0x09, 0x07)
-    ∷ table Nct7802y (from 0x80 9 ++ from 0x90 9 ++ from 0xA0 9) ++ table F75373s (from 0xA0 14 ++ from 0xB0 14)
+    ∷ tableMasks Nct7802y (tablesOf Nct7802y) ++ tableMasks F75373s (tablesOf F75373s)
 
 unfoldable pub agree : List Point → Bool
 agree [] = true

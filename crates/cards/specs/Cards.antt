@@ -1,16 +1,17 @@
 -- "The three parts and who decides": the chips, their numbers and their cards; and the contracts of `cards::chip_of` and `cards::row_of`.
 -- Assumes nothing.
-use Prim.Native.Nat.{ℕ}
-use mathlib.Core.Bool.{Bool, true, false, cond}
+use Prim.Native.Nat.{ℕ, _-_}
+use mathlib.Core.Bool.{Bool, true, false, cond, not, _&&_}
 use mathlib.Core.Path.{_≡_}
-use mathlib.Core.List.{List}
-use lib.Dec.{eqb}
+use mathlib.Core.List.{List, []}
+use lib.Dec.{eqb, leb}
+use lib.ListN.{length, getD}
 use Rattle.cards.specs.declared.Chip.{Chip}
 use Rattle.cards.specs.declared.Chip.the-variants.{Nct7802y, F75373s, Nct80}
 use Rattle.cards.specs.declared.Named.{Named}
 use Rattle.cards.specs.declared.Named.the-variants.{Known, Unknown}
 use Rattle.cards.specs.declared.Row.{Row}
-use Rattle.cards.specs.Rows.{Line, Required, rowIn, column}
+use Rattle.cards.specs.Rows.{Line, Table, rowIn, column}
 use Rattle.cards.specs.Nct7802y as nct7802y
 use Rattle.cards.specs.F75373s as f75373s
 use Rattle.cards.specs.Nct80 as nct80
@@ -43,6 +44,22 @@ rowOf chip address = rowIn (cardOf chip) address
 -- "Reset fills the image with the power-on column."
 unfoldable pub powerOn : Chip → List ℕ
 powerOn chip = column (λ address. rowOf chip address .«power_on»)
+
+-- refusal 4 goes by these: "chip 1: 1 to 3; chip 2: 1 and 2; chip 3: none"
+abbrev pub tablesOf : Chip → List Table
+tablesOf Nct7802y = nct7802y.tables
+tablesOf F75373s = f75373s.tables
+tablesOf Nct80 = []
+
+abbrev pub hasTable : Chip → ℕ → Bool
+hasTable chip number = leb 1 number && leb number (length (tablesOf chip))
+
+abbrev pub tableOf : Chip → ℕ → Table
+tableOf chip number = getD (tablesOf chip) (number - 1) (record { settings = []; speeds = [] })
+
+-- refusal 4: "the chip has no such fan table"
+abbrev pub noTable : ℕ → ℕ → Bool
+noTable chip number = not (whenKnown (chipOf chip) (λ c. hasTable c number) false)
 
 -- what `cards::chip_of` promises
 pub record Names (number : ℕ) (named : Named) : Type 0 where

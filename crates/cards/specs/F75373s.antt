@@ -1,8 +1,9 @@
 -- Fintek F75373S, source document 002.
 -- Each line: the address, the writable bits, the bits that clear on one, the power-on value. docs/CARDS.md has the choices.
 -- Assumes nothing.
+use Prim.Native.Nat.{ℕ, _+_}
 use mathlib.Core.List.{List, [], _∷_}
-use Rattle.cards.specs.Rows.{Line, Required}
+use Rattle.cards.specs.Rows.{Line, Required, Table, from}
 
 unfoldable pub card : List Line
 card =
@@ -108,3 +109,10 @@ card =
 -- "Identity": "5Ah, 5Bh, 5Dh, 5Eh hold 02h, 04h, 19h, 34h. Confirmed means all of them."
 abbrev pub identity : List Required
 identity = (0x5A, 0xFF, 0x02) ∷ (0x5B, 0xFF, 0x04) ∷ (0x5D, 0xFF, 0x19) ∷ (0x5E, 0xFF, 0x34) ∷ []
+
+-- "fan 1 has B1 to B4 at A0h to A3h and C1 to C5 from A4h to ADh, high byte first; fan 2 the same from B0h"
+abbrev pub table : ℕ → Table
+table base = record { settings = from base 4; speeds = from (base + 4) 10 }
+
+abbrev pub tables : List Table
+tables = table 0xA0 ∷ table 0xB0 ∷ []

@@ -1,8 +1,9 @@
 -- Nuvoton NCT7802Y, source document 000: bank 0 and the registers seen in every bank.
 -- Each line: the address, the writable bits, the bits that clear on one, the power-on value. docs/CARDS.md has the choices.
 -- Assumes nothing.
+use Prim.Native.Nat.{ℕ, _+_}
 use mathlib.Core.List.{List, [], _∷_}
-use Rattle.cards.specs.Rows.{Line, Required}
+use Rattle.cards.specs.Rows.{Line, Required, Table, from}
 
 unfoldable pub card : List Line
 card =
@@ -175,3 +176,10 @@ identity =
     -- "bits 5 to 0 of 08h are zero"
     ∷ (0x08, 0x3F, 0x00)
     ∷ []
+
+-- "table 1 has T1 to T4 at 80h to 83h, critical 84h, FL1 to FL4 85h to 88h; table 2 the same from 90h, table 3 from A0h"
+abbrev pub table : ℕ → Table
+table base = record { settings = from base 5; speeds = from (base + 5) 4 }
+
+abbrev pub tables : List Table
+tables = table 0x80 ∷ table 0x90 ∷ table 0xA0 ∷ []

@@ -17,6 +17,11 @@ Required = ℕ × ℕ × ℕ
 abbrev pub row : ℕ → ℕ → ℕ → Row
 row writable clears power = record { writable = writable; clears = clears; «power_on» = power }
 
+-- a fan table: where its settings stand (temperatures, and critical where there is one), and where its speeds stand, in register order
+pub record Table : Type 0 where
+  pub settings : List ℕ
+  pub speeds : List ℕ
+
 -- "Addresses that a sheet doesn't list or reserves have both masks 00h and power-on 00h"
 abbrev pub rowIn : List Line → ℕ → Row
 rowIn [] address = row 0x00 0x00 0x00
@@ -26,6 +31,10 @@ rowIn (l ∷ ls) address = cond (eqb (l .0) address) (row (l .1) (l .2) (l .3)) 
 abbrev pub run : (ℕ → ℕ) → ℕ → ℕ → List ℕ
 run f first zero = []
 run f first (suc n) = f first ∷ run f (suc first) n
+
+-- n addresses in a row
+abbrev pub from : ℕ → ℕ → List ℕ
+from first n = run (λ address. address) first n
 
 -- a number for "each of the 256 addresses"
 unfoldable pub column : (ℕ → ℕ) → List ℕ

@@ -1,0 +1,101 @@
+-- "Plans and what they ask": what a plan is, which plans are accepted, what a plan and an image ask; and the contracts of `plans`.
+-- Assumes nothing.
+use Prim.Native.Nat.{ℕ}
+use mathlib.Core.Path.{_≡_}
+use mathlib.Core.Bool.{Bool, true, not, _&&_}
+use mathlib.Core.List.{List, [], _∷_, _++_, map}
+use lib.ListN.{length, getD, take}
+use Rattle.refusal.specs.Refusals.{numberOf}
+use Rattle.refusal.specs.Checks.{Check, first, told}
+use Rattle.cards.specs.declared.Chip.{Chip}
+use Rattle.cards.specs.declared.Chip.the-variants.{Nct7802y, F75373s, Nct80}
+use Rattle.cards.specs.Rows.{Table}
+use Rattle.cards.specs.Cards.{chipOf, whenKnown, unknown, noTable, tableOf}
+use Rattle.images.specs.Images.{notAnImage}
+use Rattle.plans.specs.declared.Plan.{Plan}
+use Rattle.plans.specs.declared.Verdict.{Verdict}
+use Rattle.plans.specs.declared.Verdict.the-variants as verdict
+use Rattle.plans.specs.declared.Asked.{Asked}
+use Rattle.plans.specs.declared.Asked.the-variants as asked
+use Rattle.plans.specs.Curves.{degree, points, slope, steps, halves, words}
+use Rattle.plans.specs.Orders.{rising, falling, neverFalls, lastAtMost}
+
+-- A curve as a fan table's registers hold it, in register order: its settings, then its speeds.
+pub record Curve : Type 0 where
+  pub settings : List ℕ
+  pub speeds : List ℕ
+
+-- the curve of a plan: "the body in the register order"
+abbrev pub planned : Chip → Plan → Curve
+planned Nct7802y plan = record { settings = plan .temperatures ++ (plan .critical ∷ []); speeds = plan .duties }
+planned F75373s plan = record { settings = plan .bounds; speeds = halves (plan .counts) }
+planned Nct80 plan = record { settings = []; speeds = [] }
+
+-- the curve that a table's registers hold in an image
+abbrev pub held : Table → List ℕ → Curve
+held table image =
+    record {
+      settings = map (λ position. getD image position 0) (table .settings);
+      speeds = map (λ position. getD image position 0) (table .speeds);
+    }
+
+-- n temperatures, then critical; "T from -128 to 127"
+abbrev pub askedDuty : ℕ → ℕ → Curve → ℕ → ℕ
+askedDuty full n curve t =
+    slope full (points (map degree (take n (curve .settings))) (curve .speeds)) (degree (getD (curve .settings) n 0)) (degree t)
+
+-- the speed that a curve asks of its chip at a temperature byte: the duty of chip 1, the count of chip 2
+abbrev pub asks : Chip → Curve → ℕ → ℕ
+asks Nct7802y curve t = askedDuty 255 4 curve t
+asks F75373s curve t = steps (curve .settings) (words (curve .speeds)) t
+asks Nct80 curve t = 0
+
+-- "Accepted if T1 < T2 < T3 < T4, T4 at most critical (else 6)"; "Accepted if B1 > B2 > B3 > B4 (else 6)"
+abbrev pub temperaturesInOrder : Chip → Plan → Bool
+temperaturesInOrder Nct7802y plan =
+    rising (map degree (plan .temperatures)) && lastAtMost (map degree (plan .temperatures)) (degree (plan .critical))
+temperaturesInOrder F75373s plan = falling (plan .bounds)
+temperaturesInOrder Nct80 plan = true
+
+-- "the duties never fall from FL1 to FL4 (else 7)"; "counts never fall from C1 to C5 (else 7)"
+abbrev pub speedsInOrder : Chip → Plan → Bool
+speedsInOrder Nct7802y plan = neverFalls (plan .duties)
+speedsInOrder F75373s plan = neverFalls (plan .counts)
+speedsInOrder Nct80 plan = true
+
+-- "checks the plan by 3, 4, 6, 7"
+abbrev pub planChecks : Plan → List Check
+planChecks plan =
+    (unknown (plan .chip), 3)
+    ∷ (noTable (plan .chip) (plan .table), 4)
+    ∷ (not (whenKnown (chipOf (plan .chip)) (λ c. temperaturesInOrder c plan) true), 6)
+    ∷ (not (whenKnown (chipOf (plan .chip)) (λ c. speedsInOrder c plan) true), 7)
+    ∷ []
+
+-- the paper's number of a verdict
+abbrev pub tells : Verdict → ℕ
+tells verdict.Accepted = 0
+tells (verdict.Refused r) = numberOf r
+
+-- the paper's number and the speed of an answer
+abbrev pub tellsAsked : Asked → ℕ × ℕ
+tellsAsked (asked.Speed s) = (0, s)
+tellsAsked (asked.Refused r) = (numberOf r, 0)
+
+-- what `plans::judge` promises
+pub record Judges (plan : Plan) (r : Verdict) : Type 0 where
+  pub answer : tells r ≡ first (planChecks plan)
+
+-- what `plans::asked_of_plan` promises: "of a plan 3 and 4, never 6 or 7"
+pub record AsksPlan (plan : Plan) (t : ℕ) (r : Asked) : Type 0 where
+  pub answer :
+      tellsAsked r
+      ≡ told ((unknown (plan .chip), 3) ∷ (noTable (plan .chip) (plan .table), 4) ∷ [])
+      (whenKnown (chipOf (plan .chip)) (λ c. asks c (planned c plan) t) 0)
+
+-- what `plans::asked_of_image` promises: "Asking a speed of an image checks 3, 4 and 8". The image is only read, so it holds what it held.
+pub record AsksImage (chip table : ℕ) (image : List ℕ) (t : ℕ) (r : Asked) : Type 0 where
+  pub answer :
+      tellsAsked r
+      ≡ told ((unknown chip, 3) ∷ (noTable chip table, 4) ∷ (notAnImage image, 8) ∷ [])
+      (whenKnown (chipOf chip) (λ c. asks c (held (tableOf c table) image) t) 0)
