@@ -2,4 +2,5 @@ pub mod Columns
 pub mod Apart
 pub mod Fixed
 pub mod FixedPoints
+pub mod Tables
 pub mod Unique

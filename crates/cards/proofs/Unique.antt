@@ -1,14 +1,18 @@
--- No second answer of `cards::chip_of` or `cards::row_of` meets its contract.
+-- No second answer of a call of `cards` meets its contract.
 -- Assumes nothing.
 use Prim.Native.Nat.{ℕ}
 use mathlib.Core.Path.{_≡_, sym, _∙_}
 use Rattle.cards.specs.declared.Chip.{Chip}
 use Rattle.cards.specs.declared.Named.{Named}
+use Rattle.cards.specs.declared.Place.{Place}
 use Rattle.cards.specs.declared.Row.{Row}
-use Rattle.cards.specs.Cards.{Names, Finds}
+use Rattle.cards.specs.Cards.{Names, Finds, Places}
 
 pub names-unique : {number : ℕ} {r s : Named} → Names number r → Names number s → r ≡ s
 names-unique p q = p .answer ∙ sym (q .answer)
 
 pub finds-unique : {chip : Chip} {address : ℕ} {r s : Row} → Finds chip address r → Finds chip address s → r ≡ s
 finds-unique p q = p .answer ∙ sym (q .answer)
+
+pub places-unique : {chip : Chip} {number : ℕ} {r s : Place} → Places chip number r → Places chip number s → r ≡ s
+places-unique p q = p .answer ∙ sym (q .answer)

@@ -1,4 +1,4 @@
--- "The three parts and who decides": the chips, their numbers and their cards; and the contracts of `cards::chip_of` and `cards::row_of`.
+-- "The three parts and who decides": the chips, their numbers and their cards; and the contracts of `cards`.
 -- Assumes nothing.
 use Prim.Native.Nat.{ℕ, _-_}
 use mathlib.Core.Bool.{Bool, true, false, cond, not, _&&_}
@@ -11,6 +11,8 @@ use Rattle.cards.specs.declared.Chip.the-variants.{Nct7802y, F75373s, Nc
 use Rattle.cards.specs.declared.Named.{Named}
 use Rattle.cards.specs.declared.Named.the-variants.{Known, Unknown}
 use Rattle.cards.specs.declared.Row.{Row}
+use Rattle.cards.specs.declared.Place.{Place}
+use Rattle.cards.specs.declared.Place.the-variants.{At, Nowhere}
 use Rattle.cards.specs.Rows.{Line, Table, rowIn, column}
 use Rattle.cards.specs.Nct7802y as nct7802y
 use Rattle.cards.specs.F75373s as f75373s
@@ -57,6 +59,16 @@ hasTable chip number = leb 1 number && leb number (length (tablesOf chip))
 abbrev pub tableOf : Chip → ℕ → Table
 tableOf chip number = getD (tablesOf chip) (number - 1) (record { settings = []; speeds = [] })
 
+-- the table of a chip that begins at a base
+abbrev pub tableAt : Chip → ℕ → Table
+tableAt Nct7802y base = nct7802y.table base
+tableAt F75373s base = f75373s.table base
+tableAt Nct80 base = record { settings = []; speeds = [] }
+
+-- where a chip's table begins: at its first setting
+abbrev pub baseOf : Chip → ℕ → ℕ
+baseOf chip number = getD (tableOf chip number .settings) 0 0
+
 -- refusal 4: "the chip has no such fan table"
 abbrev pub noTable : ℕ → ℕ → Bool
 noTable chip number = not (whenKnown (chipOf chip) (λ c. hasTable c number) false)
@@ -68,3 +80,7 @@ pub record Names (number : ℕ) (named : Named) : Type 0 where
 -- what `cards::row_of` promises
 pub record Finds (chip : Chip) (address : ℕ) (row : Row) : Type 0 where
   pub answer : row ≡ rowOf chip address
+
+-- what `cards::table_at` promises
+pub record Places (chip : Chip) (number : ℕ) (place : Place) : Type 0 where
+  pub answer : place ≡ cond (hasTable chip number) (At (baseOf chip number)) Nowhere

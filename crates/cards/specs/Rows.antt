@@ -2,7 +2,7 @@
 -- Assumes nothing.
 use Prim.Native.Nat.{ℕ, zero, suc}
 use mathlib.Core.Bool.{cond}
-use mathlib.Core.List.{List, [], _∷_}
+use mathlib.Core.List.{List, [], _∷_, _++_}
 use lib.Dec.{eqb}
 use Rattle.cards.specs.declared.Row.{Row}
 
@@ -21,6 +21,10 @@ row writable clears power = record { writable = writable; clears = clears; «pow
 pub record Table : Type 0 where
   pub settings : List ℕ
   pub speeds : List ℕ
+
+-- all registers of a table, in register order
+abbrev pub positions : Table → List ℕ
+positions table = table .settings ++ table .speeds
 
 -- "Addresses that a sheet doesn't list or reserves have both masks 00h and power-on 00h"
 abbrev pub rowIn : List Line → ℕ → Row

@@ -3,7 +3,7 @@ mod f75373s;
 mod nct7802y;
 mod nct80;
 
-ghost use Rattle.cards.specs.Cards.{Names, Finds};
+ghost use Rattle.cards.specs.Cards.{Names, Finds, Places};
 
 pub enum Chip {
     Nct7802y,
@@ -22,6 +22,12 @@ pub struct Row {
     pub writable: u8,
     pub clears: u8,
     pub power_on: u8,
+}
+
+// Where a fan table begins, if there is one.
+pub enum Place {
+    At(u8),
+    Nowhere,
 }
 
 // The chip of a chip number, and none for every other number.
@@ -44,5 +50,16 @@ pub fn row_of(chip: Chip, address: u8) -> Row
         Chip::Nct7802y => nct7802y::row(address),
         Chip::F75373s => f75373s::row(address),
         Chip::Nct80 => nct80::row(address),
+    }
+}
+
+// Where the fan table of a number begins.
+pub fn table_at(chip: Chip, number: u8) -> Place
+    ensures { λ r. ⌜ Places chip number r ⌝ }
+{
+    match chip {
+        Chip::Nct7802y => nct7802y::table_at(number),
+        Chip::F75373s => f75373s::table_at(number),
+        Chip::Nct80 => Place::Nowhere,
     }
 }

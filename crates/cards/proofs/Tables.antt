@@ -1,0 +1,119 @@
+-- "All fan table registers have mask FFh", and a table's registers are distinct addresses: tests computed once over the tables of each chip, and carried to each position.
+-- Assumes nothing.
+use Prim.Native.Nat.{ℕ, zero, suc, _-_, _≤_, _<_}
+use native.Mathlib.Nat.{le-of-suc-le-suc, not-suc-le-zero}
+use native.Mathlib.Omega.{arith}
+use mathlib.Core.Path.{_≡_, refl, sym, ap}
+use mathlib.Core.Bool.{Bool, true, false, So, not, _&&_, and-eq-true-iff, false≢true}
+use mathlib.Core.List.{List, [], _∷_}
+use borrow.Author.Tests.{eqb-true, eqb-false, ltb-true, leb-true, not-true}
+use lib.Dec.{eqb, leb, ltb}
+use lib.ListN.{length, getD}
+use Rattle.cards.specs.declared.Chip.{Chip}
+use Rattle.cards.specs.declared.Chip.the-variants.{Nct7802y, F75373s, Nct80}
+use Rattle.cards.specs.Rows.{Table, positions}
+use Rattle.cards.specs.Cards.{rowOf, tablesOf, hasTable, tableOf, tableAt, baseOf}
+use Rattle.cards.specs.Nct7802y as nct7802y
+use Rattle.cards.specs.F75373s as f75373s
+
+-- a test that holds of every entry
+abbrev every : {A : Type 0} → (A → Bool) → List A → Bool
+every test [] = true
+every test (a ∷ l) = test a && every test l
+
+of-every : {A : Type 0} (test : A → Bool) (l : List A) (other : A) → So (every test l) → (k : ℕ) → k < length l → So (test (getD l k other))
+of-every test [] other t k h = absurd (not-suc-le-zero h)
+of-every test (a ∷ l) other t zero h = and-eq-true-iff (test a) (every test l) .0 t .0
+of-every test (a ∷ l) other t (suc k) h =
+    of-every test l other (and-eq-true-iff (test a) (every test l) .0 t .1) k (le-of-suc-le-suc h)
+
+abbrev distinct : List ℕ → Bool
+distinct [] = true
+distinct (p ∷ ps) = every (λ q. not (eqb p q)) ps && distinct ps
+
+-- what a list of distinct entries holds at a place, it holds nowhere else
+differs : (p : ℕ) (ps : List ℕ) → So (every (λ q. not (eqb p q)) ps) → (k : ℕ) → k < length ps → p ≡ getD ps k 0 → ⊥
+differs p ps t k h e =
+    eqb-false p (getD ps k 0) (not-true (eqb p (getD ps k 0)) (of-every (λ q. not (eqb p q)) ps 0 t k h)) e
+
+apart : (ps : List ℕ) → So (distinct ps) → (j k : ℕ) → j < length ps → k < length ps → getD ps j 0 ≡ getD ps k 0 → j ≡ k
+apart [] t j k h l e = absurd (not-suc-le-zero h)
+apart (p ∷ ps) t zero zero h l e = refl
+apart (p ∷ ps) t zero (suc k) h l e =
+    absurd (differs p ps (and-eq-true-iff (every (λ q. not (eqb p q)) ps) (distinct ps) .0 t .0) k (le-of-suc-le-suc l) e)
+apart (p ∷ ps) t (suc j) zero h l e =
+    absurd (differs p ps (and-eq-true-iff (every (λ q. not (eqb p q)) ps) (distinct ps) .0 t .0) j (le-of-suc-le-suc h) (sym e))
+apart (p ∷ ps) t (suc j) (suc k) h l e =
+    ap suc (apart ps (and-eq-true-iff (every (λ q. not (eqb p q)) ps) (distinct ps) .0 t .1) j k (le-of-suc-le-suc h) (le-of-suc-le-suc l) e)
+
+-- a position of the image whose register takes every bit
+abbrev free : Chip → ℕ → Bool
+free chip position = eqb (rowOf chip position .writable) 0xFF && ltb position 256
+
+abbrev sound : Chip → Table → Bool
+sound chip table = every (free chip) (positions table) && distinct (positions table)
+
+tested : (chip : Chip) → So (every (sound chip) (tablesOf chip))
+unfolding rowOf nct7802y.card f75373s.card
+tested Nct7802y = refl
+tested F75373s = refl
+tested Nct80 = refl
+
+-- a chip's tables have the numbers from 1 on
+pub table-number : (chip : Chip) (number : ℕ) → So (hasTable chip number) → (1 ≤ number) × (number ≤ length (tablesOf chip))
+table-number chip number t =
+    let both = and-eq-true-iff (leb 1 number) (leb number (length (tablesOf chip))) .0 t in
+    (leb-true 1 number (both .0), leb-true number (length (tablesOf chip)) (both .1))
+
+neither : (a b : Bool) → (a ≡ true → b ≡ true → ⊥) → (a && b) ≡ false
+neither true true h = absurd (h refl refl)
+neither true false h = refl
+neither false b h = refl
+
+-- and no others
+pub no-number : (number count : ℕ) → (1 ≤ number → number ≤ count → ⊥) → (leb 1 number && leb number count) ≡ false
+no-number number count h =
+    neither (leb 1 number) (leb number count) (λ p q. h (leb-true 1 number p) (leb-true number count q))
+
+module _ (chip : Chip) (number : ℕ) (has : So (hasTable chip number)) where
+  tested-table : So (sound chip (tableOf chip number))
+  tested-table =
+      let numbered = table-number chip number has in
+      of-every (sound chip) (tablesOf chip) _ (tested chip) (number - 1) (omega (arith, numbered .0, numbered .1))
+
+  tested-position : (k : ℕ) → k < length (positions (tableOf chip number)) → So (free chip (getD (positions (tableOf chip number)) k 0))
+  tested-position k h =
+      of-every (free chip) (positions (tableOf chip number)) 0
+      (and-eq-true-iff (every (free chip) (positions (tableOf chip number))) (distinct (positions (tableOf chip number))) .0 tested-table .0) k h
+
+  -- "All fan table registers have mask FFh"
+  pub table-mask : (k : ℕ) → k < length (positions (tableOf chip number))
+      → rowOf chip (getD (positions (tableOf chip number)) k 0) .writable ≡ 0xFF
+  table-mask k h =
+      let p = getD (positions (tableOf chip number)) k 0 in
+      eqb-true (rowOf chip p .writable) 0xFF (and-eq-true-iff (eqb (rowOf chip p .writable) 0xFF) (ltb p 256) .0 (tested-position k h) .0)
+
+  pub table-within : (k : ℕ) → k < length (positions (tableOf chip number)) → getD (positions (tableOf chip number)) k 0 < 256
+  table-within k h =
+      let p = getD (positions (tableOf chip number)) k 0 in
+      ltb-true p 256 (and-eq-true-iff (eqb (rowOf chip p .writable) 0xFF) (ltb p 256) .0 (tested-position k h) .1)
+
+  -- no two registers of a table share a position
+  pub table-distinct : (j k : ℕ) → j < length (positions (tableOf chip number)) → k < length (positions (tableOf chip number))
+      → getD (positions (tableOf chip number)) j 0 ≡ getD (positions (tableOf chip number)) k 0 → j ≡ k
+  table-distinct j k h l e =
+      apart (positions (tableOf chip number))
+      (and-eq-true-iff (every (free chip) (positions (tableOf chip number))) (distinct (positions (tableOf chip number))) .0 tested-table .1) j k h l e
+
+-- a chip's tables differ only in where they begin
+pub table-at-base : (chip : Chip) (number : ℕ) → So (hasTable chip number) → tableOf chip number ≡ tableAt chip (baseOf chip number)
+table-at-base Nct7802y zero t = absurd (false≢true t)
+table-at-base Nct7802y (suc zero) t = refl
+table-at-base Nct7802y (suc (suc zero)) t = refl
+table-at-base Nct7802y (suc (suc (suc zero))) t = refl
+table-at-base Nct7802y (suc (suc (suc (suc number)))) t = absurd (omega (arith, table-number Nct7802y (suc (suc (suc (suc number)))) t .1))
+table-at-base F75373s zero t = absurd (false≢true t)
+table-at-base F75373s (suc zero) t = refl
+table-at-base F75373s (suc (suc zero)) t = refl
+table-at-base F75373s (suc (suc (suc number))) t = absurd (omega (arith, table-number F75373s (suc (suc (suc number))) t .1))
+table-at-base Nct80 number t = absurd (omega (arith, table-number Nct80 number t .0, table-number Nct80 number t .1))

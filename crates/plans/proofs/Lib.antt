@@ -1,0 +1,4 @@
+pub mod Cases
+pub mod Degrees
+pub mod Slopes
+pub mod Steps
