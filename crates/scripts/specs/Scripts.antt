@@ -1,0 +1,82 @@
+-- "Plan record and script": a plan's byte writes and their play on an image; and the contracts of `scripts`.
+-- Assumes nothing.
+use Prim.Native.Nat.{ℕ, _*_, min}
+use mathlib.Core.Path.{_≡_}
+use mathlib.Core.Bool.{Bool}
+use mathlib.Core.List.{List, [], _∷_, _++_}
+use lib.Dec.{ltb}
+use lib.ListN.{length, take, drop}
+use Rattle.refusal.specs.Refusals.{numberOf}
+use Rattle.refusal.specs.Checks.{Check, told, left}
+use Rattle.cards.specs.declared.Chip.{Chip}
+use Rattle.cards.specs.declared.Chip.the-variants.{Nct7802y, F75373s, Nct80}
+use Rattle.cards.specs.Rows.{Table}
+use Rattle.cards.specs.Cards.{chipOf, whenKnown, tableOf}
+use Rattle.images.specs.Bytes.{written}
+use Rattle.images.specs.Images.{notAnImage, unconfirmed}
+use Rattle.plans.specs.declared.Plan.{Plan}
+use Rattle.plans.specs.Curves.{points}
+use Rattle.plans.specs.Orders.{fulls}
+use Rattle.plans.specs.Plans.{Curve, planned, planChecks}
+use Rattle.scripts.specs.declared.Made.{Made}
+use Rattle.scripts.specs.declared.Made.the-variants as made
+
+-- "A script is pairs of address and byte."
+abbrev pub Pair : Type 0
+Pair = ℕ × ℕ
+
+-- a byte to each of some registers
+abbrev pub writes : List ℕ → List ℕ → List Pair
+writes registers bytes = points registers bytes
+
+-- the fastest that a speed register can hold: "FFh"; "00h"
+abbrev pub fullOf : Chip → ℕ
+fullOf Nct7802y = 0xFF
+fullOf F75373s = 0x00
+fullOf Nct80 = 0x00
+
+-- "FL1 to FL4 to FFh, then T1 to T4, critical, then FL1 to FL4 as planned"; "each high and low byte of C1 to C5 to 00h in address order,
+-- then B1 to B4, then C1 to C5, high byte first": raise every speed, move every setting, settle every speed
+abbrev pub script : ℕ → Table → Curve → List Pair
+script full table curve =
+    writes (table .speeds) (fulls full (table .speeds))
+    ++ (writes (table .settings) (curve .settings) ++ writes (table .speeds) (curve .speeds))
+
+unfoldable pub scriptOf : Chip → Plan → List Pair
+scriptOf chip plan = script (fullOf chip) (tableOf chip (plan .table)) (planned chip plan)
+
+-- the script's bytes, address first
+abbrev pub flat : List Pair → List ℕ
+flat [] = []
+flat (w ∷ ws) = (w .0) ∷ ((w .1) ∷ flat ws)
+
+-- an image after some byte writes
+abbrev pub played : Chip → List Pair → List ℕ → List ℕ
+played chip [] image = image
+played chip (w ∷ ws) image = played chip ws (written chip (w .0) (w .1) image)
+
+abbrev pub scriptFor : Plan → List Pair
+scriptFor plan = whenKnown (chipOf (plan .chip)) (λ c. scriptOf c plan) []
+
+-- the paper's number and the number of writes of an answer
+abbrev pub tells : Made → ℕ × ℕ
+tells (made.Writes n) = (0, n)
+tells (made.Refused r) = (numberOf r, 0)
+
+-- "Writing .. a script checks the plan by 3, 4, 6, 7 and then 9"
+abbrev pub scriptChecks : Plan → List ℕ → List Check
+scriptChecks plan out = planChecks plan ++ ((ltb (length out) (2 * length (scriptFor plan)), 9) ∷ [])
+
+-- "playing a script checks 3, 4, 6, 7, 8, 10 and no 9"
+abbrev pub playChecks : Plan → List ℕ → List Check
+playChecks plan image = planChecks plan ++ ((notAnImage image, 8) ∷ (unconfirmed (plan .chip) image, 10) ∷ [])
+
+-- what `scripts::script` promises: "The answer says how many writes"; "An output longer than the result keeps its tail."
+pub record Scripts (plan : Plan) (old : List ℕ) (r : Made) (new : List ℕ) : Type 0 where
+  pub answer : tells r ≡ told (scriptChecks plan old) (length (scriptFor plan))
+  pub bytes : new ≡ left (scriptChecks plan old) (flat (scriptFor plan) ++ drop (2 * length (scriptFor plan)) old) old
+
+-- what `scripts::play` promises: "a number above the script's length means all. It answers how many it made."
+pub record Plays (plan : Plan) (old : List ℕ) (count : ℕ) (r : Made) (new : List ℕ) : Type 0 where
+  pub answer : tells r ≡ told (playChecks plan old) (min count (length (scriptFor plan)))
+  pub bytes : new ≡ left (playChecks plan old) (whenKnown (chipOf (plan .chip)) (λ c. played c (take count (scriptOf c plan)) old) old) old
