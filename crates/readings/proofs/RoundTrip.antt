@@ -6,14 +6,14 @@ use native.Mathlib.Omega.{arith}
 use mathlib.Core.Path.{_≡_, refl, sym, ap, _∙_, subst}
 use mathlib.Core.Bool.{Bool, true, false, not}
 use mathlib.Core.List.{[], _∷_}
-use lib.IntN.{ℤ, pos}
+use lib.IntN.{ℤ}
 use Rattle.refusal.specs.Checks.{first}
 use Rattle.readings.specs.declared.Steps.{Steps}
 use Rattle.readings.specs.declared.Steps.the-variants as steps
 use Rattle.readings.specs.declared.Bytes.{Bytes}
 use Rattle.readings.specs.declared.Bytes.the-variants as bytes
 use Rattle.readings.specs.Readings.{isWidth, fits, wordOf, bytesOf, stepsAt, bytesAt, cleared}
-use Rattle.readings.specs.Promises.{Counts, Writes, stepsChecks, bytesChecks, tellsSteps, tellsBytes, told}
+use Rattle.readings.specs.Promises.{Counts, Writes, tellsSteps, tellsBytes, told}
 use Rattle.readings.proofs.Widths.{bounds}
 use Rattle.readings.proofs.Scaled.{steps-again, word-cleared, number-fits}
 use Rattle.readings.proofs.Unique.{tellsSteps-injective, tellsBytes-injective}

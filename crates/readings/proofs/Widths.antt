@@ -1,14 +1,14 @@
 -- What the tests of a width say: the four widths lie from 8 to 12, and steps that fit w bits are those whose magnitude is below 2 ^ (w - 1).
 -- Assumes nothing.
-use Prim.Native.Nat.{ℕ, suc, _+_, _-_, _*_, _%_, _^_, _<_, _≤_}
+use Prim.Native.Nat.{ℕ, suc, _-_, _*_, _%_, _^_, _<_, _≤_}
 use native.Mathlib.Omega.{arith}
 use mathlib.Core.Path.{_≡_, refl, sym, ap, _∙_}
-use mathlib.Core.Bool.{Bool, true, false, false≢true, not, _&&_, _||_, and-true}
+use mathlib.Core.Bool.{Bool, true, false, false≢true, _||_, and-true}
 use lib.Dec.{ltb, leb, eqb, leb·suc-suc}
 use lib.Pow.{pow-pos, pow-lt, suc-ones}
 use lib.IntN.{ℤ, pos, negsuc, negℤ, _-ℤ_, +ℤ-idl}
-use lib.Signed.{mag, ltZ, leZ}
-use borrow.Author.Tests.{eqb-true, ltb-true, ltb-false, le-leb, lt-leb}
+use lib.Signed.{mag}
+use borrow.Author.Tests.{eqb-true}
 use mir.Syntax.{w16}
 use mir.Val.{toZ}
 use mir.Facts.{toZ-pos}
@@ -33,23 +33,6 @@ pub fits-is : (w : ℕ) (steps : ℤ) → fits w steps ≡ ltb (mag steps) (2 ^ 
 fits-is w (pos n) = rw (least (w - 1))
 fits-is w (negsuc n) =
     rw (least (w - 1), and-true) (sym (leb·suc-suc n (2 ^ (w - 1) - 1)) ∙ ap (leb (suc n)) (suc-ones (w - 1)))
-
-not-below : (m n : ℕ) → leb m n ≡ not (ltb n m)
-not-below m n = go (ltb n m) refl
-  where
-    go : (b : Bool) → ltb n m ≡ b → leb m n ≡ not b
-    go true t = lt-leb m n (ltb-true n m t)
-    go false t = le-leb m n (ltb-false n m t)
-
-not-belowℤ : (a b : ℤ) → leZ a b ≡ not (ltZ b a)
-not-belowℤ (pos m) (pos n) = not-below m n
-not-belowℤ (pos m) (negsuc n) = refl
-not-belowℤ (negsuc m) (pos n) = refl
-not-belowℤ (negsuc m) (negsuc n) = not-below n m
-
--- the two tests of the code
-pub fits-by : (w : ℕ) (steps : ℤ) → fits w steps ≡ (not (ltZ steps (negsuc (2 ^ (w - 1) - 1))) && ltZ steps (pos (2 ^ (w - 1))))
-fits-by w steps = rw (least (w - 1), not-belowℤ (negsuc (2 ^ (w - 1) - 1)) steps)
 
 -- the code's 1 << (w - 1), and the same below 0
 pub below-zero : (k : ℕ) → pos 0 -ℤ pos (2 ^ k) ≡ negsuc (2 ^ k - 1)

@@ -58,10 +58,10 @@ fn does_fit(width: u8, steps: i16) -> bool
     ensures { λ r. ⌜ r ≡ fits width steps ⌝ }
 {
     let reach: i16 = 1 << (width - 1);
-    if steps < -reach {
-        return false;
+    if -reach <= steps {
+        return steps < reach;
     }
-    steps < reach
+    false
 }
 
 // The temperature of two bytes at a width.

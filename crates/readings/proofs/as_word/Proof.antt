@@ -2,12 +2,10 @@
 -- Assumes nothing.
 use Prim.Native.Nat.{_-_, _^_, _<_, _≤_}
 use native.Mathlib.Omega.{arith}
-use mathlib.Core.Path.{_≡_, _∙_, ap}
-use mathlib.Core.Bool.{true, false}
-use lib.IntN.{pos, negsuc, natAbs, _-ℤ_}
-use lib.Signed.{ltZ}
+use mathlib.Core.Path.{_≡_}
+use lib.IntN.{pos, negsuc, _-ℤ_}
 use mir.Syntax.{w16}
-use mir.Val.{SFits, toZ, ofZ}
+use mir.Val.{toZ, ofZ}
 use mir.Facts.{toZ-ofZ, fits-natAbs}
 use Rattle.readings.specs.Readings.{asWord}
 use Rattle.readings.proofs.Words.{top-taken, top-set, kept}

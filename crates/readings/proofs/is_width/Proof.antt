@@ -1,7 +1,6 @@
 -- `readings::is_width` meets its contract: each arm's number is one of the four that `isWidth` tests, and the last arm's is none of them.
 -- Assumes nothing.
-use mathlib.Core.Path.{sym}
-use borrow.Author.Tests.{eq-eqb, ne-eqb}
+use borrow.Author.Tests.{ne-eqb}
 use Rattle.readings.proofs.is_width.Statement.{statement}
 use Rattle.readings.proofs.is_width.Tie as tie
 
