@@ -2,7 +2,7 @@
 -- Assumes nothing.
 use mathlib.Core.Path.{_≡_, refl, sym, ap, _∙_}
 use mathlib.Core.Bool.{Bool, true, false, true≢false}
-use mathlib.Core.List.{List, [], _∷_, _++_}
+use mathlib.Core.List.{List, [], _∷_, _++_, map-append}
 use native.Mathlib.Nat.{le-refl}
 use lib.IntN.{ℤ, pos, negsuc}
 use lib.Signed.{ltZ}
@@ -10,12 +10,18 @@ use borrow.Author.Tests.{le-ltb}
 use Rattle.refusal.specs.Checks.{pick}
 use Rattle.watch.specs.declared.Behaviour.the-variants.{Default, OneTime, Comparator}
 use Rattle.watch.specs.declared.Watch.{Watch}
-use Rattle.watch.specs.Alarm.{fresh, inSteps, hotAfter, isSample, taken, acknowledged, Event, sample, acknowledge, after, run}
+use Rattle.watch.specs.Alarm.{fresh, inSteps, hotAfter, isSample, taken, acknowledged, Event, sample, acknowledge, after, run, recorded}
+use Rattle.watch.specs.Promises.{Runs}
 
 -- a run equals the single steps in turn, wherever it is cut
 pub run-append : (watch : Watch) (a b : List Event) → run watch (a ++ b) ≡ run (run watch a) b
 run-append watch [] b = refl
 run-append watch (e ∷ a) b = run-append (after watch e) a b
+
+-- so two calls of `watch::Watch::run` with the same limits, one after the other, are one over both records
+pub runs-join : {watch r s : Watch} {a b : List ℤ} {high hysteresis : ℤ} → Runs watch a high hysteresis r → Runs r b high hysteresis s → Runs watch (a ++ b) high hysteresis s
+runs-join {watch} {r} {s} {a} {b} {high} {hysteresis} p q =
+    record { answer = q .answer ∙ ap (λ (w : Watch). run w (recorded high hysteresis b)) (p .answer) ∙ sym (run-append watch (recorded high hysteresis a) (recorded high hysteresis b)) ∙ ap (run watch) (sym (map-append (λ (steps : ℤ). sample steps high hysteresis) a b)) }
 
 -- what a sample keeps, taken or refused
 picked : {A : Type 0} (f : Watch → A) (b : Bool) (new old : Watch) → f new ≡ f old → f (pick b new old) ≡ f old

@@ -4,12 +4,14 @@ ghost use mathlib.Core.Path.{_≡_};
 ghost use Rattle.watch.specs.Alarm.{isSample, inSteps, hotAfter, pendingAfter, after, sample};
 ghost use Rattle.watch.specs.Promises.{Starts, Samples, Acknowledges, Shows, Runs};
 
+// What makes an alarm, and what the output shows: the data sheet's default, one-time and comparator.
 pub enum Behaviour {
     Default,
     OneTime,
     Comparator,
 }
 
+// A watch has its behaviour for good, and two facts.
 pub struct Watch {
     pub behaviour: Behaviour,
     pub hot: bool,
@@ -77,6 +79,7 @@ fn pending_after(behaviour: Behaviour, was: bool, hot: bool, pending: bool) -> b
 }
 
 impl Watch {
+    // Both facts are off at first.
     pub fn new(behaviour: Behaviour) -> Watch
         ensures { λ r. ⌜ Starts behaviour r ⌝ }
     {
@@ -87,7 +90,7 @@ impl Watch {
         }
     }
 
-    // A sample of 12 bits, with its limits in whole degrees.
+    // A sample of 12 bits, with its limits in whole degrees. Any other number of steps is refused and changes neither fact.
     pub fn sample(mut self, steps: i16, high: i8, hysteresis: i8) -> Sampled
         ensures { λ r. ⌜ Samples self steps high hysteresis r ⌝ }
     {
@@ -103,6 +106,7 @@ impl Watch {
         Sampled::Taken(self)
     }
 
+    // Pending goes off, and hot stays.
     pub fn acknowledge(mut self) -> Watch
         ensures { λ r. ⌜ Acknowledges self r ⌝ }
     {
@@ -110,6 +114,7 @@ impl Watch {
         self
     }
 
+    // Hot in comparator, pending in the other two.
     pub fn output(self) -> bool
         ensures { λ r. ⌜ Shows self r ⌝ }
     {
@@ -120,6 +125,7 @@ impl Watch {
             Behaviour::Comparator => self.hot,
         }
     }
+
     // What one sample leaves, taken or refused.
     fn after(self, steps: i16, high: i8, hysteresis: i8) -> Watch
         ensures { λ r. ⌜ r ≡ after self (sample steps high hysteresis) ⌝ }
