@@ -1,10 +1,9 @@
 -- No second answer of a call on an image meets its contract, and no other bytes: what an answer tells is told by no other answer.
 -- Assumes nothing.
 use Prim.Native.Nat.{ℕ}
-use native.Mathlib.Omega.{arith}
 use mathlib.Core.Path.{_≡_, refl, sym, ap, _∙_}
 use mathlib.Core.List.{List}
-use Rattle.refusal.proofs.Numbers.{numberOf-injective, numberOf-positive}
+use Rattle.refusal.proofs.Numbers.{numberOf-injective, not-accepted}
 use Rattle.images.specs.declared.Outcome.{Outcome}
 use Rattle.images.specs.declared.Outcome.the-variants as outcome
 use Rattle.images.specs.declared.ByteRead.{ByteRead}
@@ -13,14 +12,14 @@ use Rattle.images.specs.Images.{tells, tellsByte, Writes, Reads, Resets,
 
 pub tells-injective : (r s : Outcome) → tells r ≡ tells s → r ≡ s
 tells-injective outcome.Accepted outcome.Accepted e = refl
-tells-injective outcome.Accepted (outcome.Refused q) e = absurd (omega (arith, numberOf-positive q))
-tells-injective (outcome.Refused p) outcome.Accepted e = absurd (omega (arith, numberOf-positive p))
+tells-injective outcome.Accepted (outcome.Refused q) e = absurd (not-accepted q e)
+tells-injective (outcome.Refused p) outcome.Accepted e = absurd (not-accepted p (sym e))
 tells-injective (outcome.Refused p) (outcome.Refused q) e = ap outcome.Refused (numberOf-injective p q e)
 
 pub tellsByte-injective : (r s : ByteRead) → tellsByte r ≡ tellsByte s → r ≡ s
 tellsByte-injective (byteRead.Byte b) (byteRead.Byte d) e = ap byteRead.Byte (ap (λ (t : ℕ × ℕ). t .1) e)
-tellsByte-injective (byteRead.Byte b) (byteRead.Refused q) e = absurd (omega (arith, numberOf-positive q, ap (λ (t : ℕ × ℕ). t .0) e))
-tellsByte-injective (byteRead.Refused p) (byteRead.Byte d) e = absurd (omega (arith, numberOf-positive p, ap (λ (t : ℕ × ℕ). t .0) e))
+tellsByte-injective (byteRead.Byte b) (byteRead.Refused q) e = absurd (not-accepted q (ap (λ (t : ℕ × ℕ). t .0) e))
+tellsByte-injective (byteRead.Refused p) (byteRead.Byte d) e = absurd (not-accepted p (sym (ap (λ (t : ℕ × ℕ). t .0) e)))
 tellsByte-injective (byteRead.Refused p) (byteRead.Refused q) e = ap byteRead.Refused (numberOf-injective p q (ap (λ (t : ℕ × ℕ). t .0) e))
 
 pub writes-unique : {chip : ℕ} {old : List ℕ} {address byte : ℕ} {r s : Outcome} {l m : List ℕ}

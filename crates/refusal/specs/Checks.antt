@@ -14,9 +14,13 @@ abbrev pub first : List Check → ℕ
 first [] = 0
 first (c ∷ cs) = cond (c .0) (c .1) (first cs)
 
--- "A refusal returns its number and zero in every other part of the answer"
+-- "A refusal returns its number and zero in every other part of the answer", whatever values the answer has ..
+abbrev pub toldOr : {A : Type 0} → A → List Check → A → ℕ × A
+toldOr none checks value = (first checks, cond (eqb (first checks) 0) value none)
+
+-- .. and where it has one number
 abbrev pub told : List Check → ℕ → ℕ × ℕ
-told checks value = (first checks, cond (eqb (first checks) 0) value 0)
+told checks value = toldOr 0 checks value
 
 -- "each lent buffer holds what it held": the new bytes where no check applies, else the old ones
 abbrev pub left : List Check → List ℕ → List ℕ → List ℕ
