@@ -1,2 +1,3 @@
 pub mod Scripts
 pub mod Rules
+pub mod NeverSlower
