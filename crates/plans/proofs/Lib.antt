@@ -1,4 +1,6 @@
 pub mod Cases
-pub mod Degrees
-pub mod Slopes
-pub mod Steps
+pub mod TwosComplement
+pub mod SlopeLaws
+pub mod StepLaws
+pub mod Walks
+pub mod Registers
