@@ -4,3 +4,5 @@ pub mod SlopeLaws
 pub mod StepLaws
 pub mod Walks
 pub mod Registers
+pub mod Unique
+pub mod Figures
