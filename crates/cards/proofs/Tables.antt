@@ -3,16 +3,18 @@
 use Prim.Native.Nat.{ℕ, zero, suc, _-_, _≤_, _<_}
 use native.Mathlib.Nat.{le-of-suc-le-suc, not-suc-le-zero}
 use native.Mathlib.Omega.{arith}
-use mathlib.Core.Path.{_≡_, refl, sym, ap}
-use mathlib.Core.Bool.{Bool, true, false, So, not, _&&_, and-eq-true-iff, false≢true}
+use mathlib.Core.Path.{_≡_, refl, sym, ap, _∙_}
+use mathlib.Core.Bool.{Bool, true, false, So, cond, not, _&&_, and-eq-true-iff, false≢true}
 use mathlib.Core.List.{List, [], _∷_}
 use borrow.Author.Tests.{eqb-true, eqb-false, ltb-true, leb-true, not-true}
 use lib.Dec.{eqb, leb, ltb}
 use lib.ListN.{length, getD}
 use Rattle.cards.specs.declared.Chip.{Chip}
 use Rattle.cards.specs.declared.Chip.the-variants.{Nct7802y, F75373s, Nct80}
+use Rattle.cards.specs.declared.Place.{Place}
+use Rattle.cards.specs.declared.Place.the-variants.{At, Nowhere}
 use Rattle.cards.specs.Rows.{Table, positions}
-use Rattle.cards.specs.Cards.{rowOf, tablesOf, hasTable, tableOf, tableAt, baseOf}
+use Rattle.cards.specs.Cards.{rowOf, tablesOf, hasTable, tableOf, tableAt, baseOf, Places}
 use Rattle.cards.specs.Nct7802y as nct7802y
 use Rattle.cards.specs.F75373s as f75373s
 
@@ -117,3 +119,19 @@ table-at-base F75373s (suc zero) t = refl
 table-at-base F75373s (suc (suc zero)) t = refl
 table-at-base F75373s (suc (suc (suc number))) t = absurd (omega (arith, table-number F75373s (suc (suc (suc number))) t .1))
 table-at-base Nct80 number t = absurd (omega (arith, table-number Nct80 number t .0, table-number Nct80 number t .1))
+
+-- what a place tells of the table
+at-place : (has : Bool) (n base : ℕ) → cond has (At n) Nowhere ≡ At base → (has ≡ true) × (base ≡ n)
+at-place true n base e = (refl, cc)
+at-place false n base e = let z : _≡_ {A = ℕ} 0 1 = cc in absurd (omega arith)
+
+no-place : (has : Bool) (n : ℕ) → cond has (At n) Nowhere ≡ Nowhere → has ≡ false
+no-place true n e = let z : _≡_ {A = ℕ} 0 1 = cc in absurd (omega arith)
+no-place false n e = refl
+
+pub place-found : {chip : Chip} {number : ℕ} {place : Place} (base : ℕ) → Places chip number place → place ≡ At base
+    → (hasTable chip number ≡ true) × (base ≡ baseOf chip number)
+place-found {chip} {number} base p e = at-place (hasTable chip number) (baseOf chip number) base (sym (p .answer) ∙ e)
+
+pub place-missed : {chip : Chip} {number : ℕ} {place : Place} → Places chip number place → place ≡ Nowhere → hasTable chip number ≡ false
+place-missed {chip} {number} p e = no-place (hasTable chip number) (baseOf chip number) (sym (p .answer) ∙ e)

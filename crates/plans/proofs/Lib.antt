@@ -1,4 +1,8 @@
 pub mod Cases
-pub mod Degrees
-pub mod Slopes
-pub mod Steps
+pub mod TwosComplement
+pub mod SlopeLaws
+pub mod StepLaws
+pub mod Walks
+pub mod Registers
+pub mod Unique
+pub mod Figures

@@ -4,12 +4,12 @@ use Prim.Native.Nat.{ℕ}
 use mathlib.Core.Path.{_≡_}
 use mathlib.Core.Bool.{Bool, true, not, _&&_}
 use mathlib.Core.List.{List, [], _∷_, _++_, map}
-use lib.ListN.{length, getD, take}
+use lib.ListN.{getD, take, replicate}
 use Rattle.refusal.specs.Refusals.{numberOf}
 use Rattle.refusal.specs.Checks.{Check, first, told}
 use Rattle.cards.specs.declared.Chip.{Chip}
 use Rattle.cards.specs.declared.Chip.the-variants.{Nct7802y, F75373s, Nct80}
-use Rattle.cards.specs.Rows.{Table}
+use Rattle.cards.specs.Rows.{Table, from}
 use Rattle.cards.specs.Cards.{chipOf, whenKnown, unknown, noTable, tableOf}
 use Rattle.images.specs.Images.{notAnImage}
 use Rattle.plans.specs.declared.Plan.{Plan}
@@ -31,12 +31,49 @@ planned Nct7802y plan = record { settings = plan .temperatures ++ (plan .critica
 planned F75373s plan = record { settings = plan .bounds; speeds = halves (plan .counts) }
 planned Nct80 plan = record { settings = []; speeds = [] }
 
+-- the bytes that stand at positions
+abbrev pub bytesAt : List ℕ → List ℕ → List ℕ
+bytesAt bytes positions = map (λ position. getD bytes position 0) positions
+
 -- the curve that a table's registers hold in an image
 abbrev pub held : Table → List ℕ → Curve
-held table image =
+held table image = record { settings = bytesAt image (table .settings); speeds = bytesAt image (table .speeds) }
+
+abbrev pub zeros : ℕ → List ℕ
+zeros n = replicate n 0
+
+-- the plan whose curve stands in a body's bytes, "in the register order"; "those of the other chip are zero in what is read".
+-- What a short body lacks counts as 0.
+abbrev pub decoded : Chip → ℕ → List ℕ → Plan
+decoded Nct7802y table body =
     record {
-      settings = map (λ position. getD image position 0) (table .settings);
-      speeds = map (λ position. getD image position 0) (table .speeds);
+      chip = 1;
+      table = table;
+      temperatures = bytesAt body (from 0 4);
+      critical = getD body 4 0;
+      duties = bytesAt body (from 5 4);
+      bounds = zeros 4;
+      counts = zeros 5;
+    }
+decoded F75373s table body =
+    record {
+      chip = 2;
+      table = table;
+      temperatures = zeros 4;
+      critical = 0;
+      duties = zeros 4;
+      bounds = bytesAt body (from 0 4);
+      counts = words (bytesAt body (from 4 10));
+    }
+decoded Nct80 table body =
+    record {
+      chip = 3;
+      table = table;
+      temperatures = zeros 4;
+      critical = 0;
+      duties = zeros 4;
+      bounds = zeros 4;
+      counts = zeros 5;
     }
 
 -- n temperatures, then critical; "T from -128 to 127"
@@ -63,13 +100,21 @@ speedsInOrder Nct7802y plan = neverFalls (plan .duties)
 speedsInOrder F75373s plan = neverFalls (plan .counts)
 speedsInOrder Nct80 plan = true
 
+-- refusal 6: "temperatures of the plan are out of order"
+abbrev pub temperaturesOut : Plan → Bool
+temperaturesOut plan = not (whenKnown (chipOf (plan .chip)) (λ c. temperaturesInOrder c plan) true)
+
+-- refusal 7: "duties or counts of the plan are out of order"
+abbrev pub speedsOut : Plan → Bool
+speedsOut plan = not (whenKnown (chipOf (plan .chip)) (λ c. speedsInOrder c plan) true)
+
 -- "checks the plan by 3, 4, 6, 7"
 abbrev pub planChecks : Plan → List Check
 planChecks plan =
     (unknown (plan .chip), 3)
     ∷ (noTable (plan .chip) (plan .table), 4)
-    ∷ (not (whenKnown (chipOf (plan .chip)) (λ c. temperaturesInOrder c plan) true), 6)
-    ∷ (not (whenKnown (chipOf (plan .chip)) (λ c. speedsInOrder c plan) true), 7)
+    ∷ (temperaturesOut plan, 6)
+    ∷ (speedsOut plan, 7)
     ∷ []
 
 -- the paper's number of a verdict
@@ -99,3 +144,7 @@ pub record AsksImage (chip table : ℕ) (image : List ℕ) (t : ℕ) (r : Asked)
       tellsAsked r
       ≡ told ((unknown chip, 3) ∷ (noTable chip table, 4) ∷ (notAnImage image, 8) ∷ [])
       (whenKnown (chipOf chip) (λ c. asks c (held (tableOf c table) image) t) 0)
+
+-- what `plans::plan_of_body` promises. The body is only read, so it holds what it held.
+pub record Decodes (chip : Chip) (table : ℕ) (body : List ℕ) (plan : Plan) : Type 0 where
+  pub answer : plan ≡ decoded chip table body

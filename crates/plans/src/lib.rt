@@ -1,6 +1,20 @@
 // Cooling plans: which are accepted, and what speed a plan, or the curve in an image, asks at a temperature.
+mod bodies;
+mod degrees;
+mod orders;
+mod slope;
+mod steps;
+
+use cards::Chip;
+use cards::Named;
+use cards::Place;
 use refusal::Refusal;
-ghost use Rattle.plans.specs.Plans.{Judges};
+ghost use mathlib.Core.Path.{_≡_};
+ghost use mathlib.Core.Bool.{not};
+ghost use mathlib.Core.List.{[], _∷_};
+ghost use Rattle.refusal.specs.Checks.{first};
+ghost use Rattle.cards.specs.Cards.{hasTable};
+ghost use Rattle.plans.specs.Plans.{planned, asks, temperaturesInOrder, speedsInOrder, tells, Judges, AsksPlan, AsksImage, Decodes};
 
 // A plan of either chip. Temperatures are bytes as their registers hold them: two's complement for chip 1, unsigned for chip 2.
 pub struct Plan {
@@ -24,4 +38,118 @@ pub enum Verdict {
 pub enum Asked {
     Speed(u16),
     Refused(Refusal),
+}
+
+// What is left to check of a plan once its chip is known.
+fn judge_known(chip: Chip, plan: Plan) -> Verdict
+    ensures { λ r. ⌜ tells r ≡ first ((not (hasTable chip (plan .table)), 4) ∷ (not (temperaturesInOrder chip plan), 6) ∷ (not (speedsInOrder chip plan), 7) ∷ []) ⌝ }
+{
+    if let Place::Nowhere = cards::table_at(chip, plan.table) {
+        return Verdict::Refused(Refusal::NoSuchTable);
+    }
+    if !orders::temperatures_in_order(chip, plan) {
+        return Verdict::Refused(Refusal::TemperaturesOutOfOrder);
+    }
+    if !orders::speeds_in_order(chip, plan) {
+        return Verdict::Refused(Refusal::SpeedsOutOfOrder);
+    }
+    Verdict::Accepted
+}
+
+// Whether a plan is accepted, and else the first check that it fails.
+pub fn judge(plan: Plan) -> Verdict
+    ensures { λ r. ⌜ Judges plan r ⌝ }
+{
+    match cards::chip_of(plan.chip) {
+        Named::Unknown => Verdict::Refused(Refusal::NoSuchChip),
+        Named::Known(chip) => judge_known(chip, plan),
+    }
+}
+
+// The speed that a plan's curve asks of its chip.
+fn speed_of(chip: Chip, plan: Plan, t: u8) -> u16
+    ensures { λ r. ⌜ r ≡ asks chip (planned chip plan) t ⌝ }
+{
+    match chip {
+        Chip::Nct7802y => {
+            let temperatures = plan.temperatures;
+            let duties = plan.duties;
+            slope::asked_duty(temperatures, plan.critical, duties, t) as u16
+        }
+        Chip::F75373s => {
+            let bounds = plan.bounds;
+            let counts = plan.counts;
+            steps::asked_count(bounds, counts, t)
+        }
+        Chip::Nct80 => 0,
+    }
+}
+
+// The speed that a plan asks at a temperature, ordered or not.
+pub fn asked_of_plan(plan: Plan, t: u8) -> Asked
+    ensures { λ r. ⌜ AsksPlan plan t r ⌝ }
+{
+    match cards::chip_of(plan.chip) {
+        Named::Unknown => Asked::Refused(Refusal::NoSuchChip),
+        Named::Known(chip) => {
+            if let Place::Nowhere = cards::table_at(chip, plan.table) {
+                return Asked::Refused(Refusal::NoSuchTable);
+            }
+            Asked::Speed(speed_of(chip, plan, t))
+        }
+    }
+}
+
+// The plan whose curve stands in a body's bytes, in register order. What a short body lacks counts as 0.
+pub fn plan_of_body(chip: Chip, table: u8, body: &[u8]) -> Plan
+    ensures { λ r. ⌜ Decodes chip table (now (body .entry)) r ⌝ }
+{
+    match chip {
+        Chip::Nct7802y => Plan {
+            chip: 1,
+            table,
+            temperatures: bodies::four_at(body, 0),
+            critical: bodies::byte_at(body, 4),
+            duties: bodies::four_at(body, 5),
+            bounds: [0; 4],
+            counts: [0; 5],
+        },
+        Chip::F75373s => Plan {
+            chip: 2,
+            table,
+            temperatures: [0; 4],
+            critical: 0,
+            duties: [0; 4],
+            bounds: bodies::four_at(body, 0),
+            counts: bodies::counts_at_4(body),
+        },
+        Chip::Nct80 => Plan {
+            chip: 3,
+            table,
+            temperatures: [0; 4],
+            critical: 0,
+            duties: [0; 4],
+            bounds: [0; 4],
+            counts: [0; 5],
+        },
+    }
+}
+
+// The speed that the curve in an image's fan table asks at a temperature.
+pub fn asked_of_image(chip: u8, table: u8, image: &[u8], t: u8) -> Asked
+    ensures { λ r. ⌜ AsksImage chip table (now (image .entry)) t r ⌝ }
+{
+    match cards::chip_of(chip) {
+        Named::Unknown => Asked::Refused(Refusal::NoSuchChip),
+        Named::Known(known) => match cards::table_at(known, table) {
+            Place::Nowhere => Asked::Refused(Refusal::NoSuchTable),
+            Place::At(base) => {
+                if image.len() != 256 {
+                    return Asked::Refused(Refusal::NotAnImage);
+                }
+                let at = base as usize;
+                Asked::Speed(speed_of(known, plan_of_body(known, table, &image[at..]), t))
+            }
+        },
+    }
 }

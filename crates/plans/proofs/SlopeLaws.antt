@@ -40,6 +40,10 @@ module _ (a b : ℕ) where
       let up : d₁ * (u - a) ≡ d₁ * (t - a) + d₁ * (u - t) = ap (λ (n : ℕ). d₁ * n) (omega arith) ∙ mul-add d₁ (t - a) (u - t) in
       div-mono _ _ (b - a) (omega (arith, down, up, mul-le-mul-right (u - t) p))
 
+-- the mean of two duties is at most what both are
+pub mean-at-most : (a b d e most t : ℕ) → a < t → t ≤ b → d ≤ most → e ≤ most → mean (a, d) (b, e) t ≤ most
+mean-at-most a b d e most t p q h k = omega (arith, mean-faster a b most most d e t h k, mean-level a b most t p q)
+
 -- "the asked speed is at least as fast when every speed register is": above a point ..
 above-faster : (ts ds es : List ℕ) (a d e t : ℕ) → e ≤ d → Each MoreDuty ds es
     → above (a, e) (points ts es) t ≤ above (a, d) (points ts ds) t

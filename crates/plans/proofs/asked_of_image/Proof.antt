@@ -1,0 +1,93 @@
+-- `plans::asked_of_image` meets its contract: each answer knows the chip, the table and how long the image is; the body at the base asks what the table does.
+-- Assumes nothing.
+use Rattle.plans.proofs.Registers.{body-asks}
+use borrow.Author.Tests.{eq-eqb, ne-eqb}
+use mathlib.Core.Path.{sym, ap, _∙_}
+use Prim.Native.Nat.{ℕ}
+use Rattle.cards.proofs.Tables.{place-found, place-missed}
+use borrow.Author.Needs.{needs}
+use Rattle.plans.proofs.asked_of_image.Statement.{statement}
+use Rattle.plans.proofs.asked_of_image.Tie as tie
+
+chip-of-requires : tie.Need-chip-of-requires
+chip-of-requires c κs = search needs
+
+enum-told : tie.Need-enum-told
+enum-told c = search needs
+
+enum-known-known : tie.Need-enum-known-known
+enum-known-known c = search needs
+
+table-at-requires : tie.Need-table-at-requires
+table-at-requires c κs = search needs
+
+enum-told-2 : tie.Need-enum-told-2
+enum-told-2 c = search needs
+
+enum-known-base : tie.Need-enum-known-base
+enum-known-base c = search needs
+
+returns : tie.Need-returns
+returns c =
+    let k = c .before .before in
+    let e = sym (k .before .before .before .before .before .before .chip-of .ensures .answer) ∙ k .before .before .before .before .known .given .1 in
+    record { answer = rw (e, place-found _ (k .before .before .table-at .ensures) (k .base .given .1) .0, ne-eqb _ _ (c .if1 .taken)) }
+
+cast-at : tie.Need-cast-at
+cast-at c = search needs
+
+sub-plan-of-body : tie.Need-sub-plan-of-body
+sub-plan-of-body c = search needs
+
+part-plan-of-body-start : tie.Need-part-plan-of-body-start
+part-plan-of-body-start c = search needs
+
+part-plan-of-body-end : tie.Need-part-plan-of-body-end
+part-plan-of-body-end c = search needs
+
+plan-of-body-requires : tie.Need-plan-of-body-requires
+plan-of-body-requires c κs = search needs
+
+speed-of-requires : tie.Need-speed-of-requires
+speed-of-requires c κs = search needs
+
+returns-2 : tie.Need-returns-2
+returns-2 c = record { answer = simp (sym (c .before .before .chip-of .ensures .answer) ∙ c .enum-told .given .1) }
+
+returns-3 : tie.Need-returns-3
+returns-3 c =
+    let k = c .before .before in
+    let e = sym (k .before .before .before .before .chip-of .ensures .answer) ∙ k .before .before .known .given .1 in
+    record { answer = rw (e, place-missed (k .table-at .ensures) (c .enum-told2 .given .1)) }
+
+returns-4 : tie.Need-returns-4
+returns-4 c =
+    let i = c .before .before .before in
+    let k = i .before .before in
+    let e = sym (k .before .before .before .before .before .before .chip-of .ensures .answer) ∙ k .before .before .before .before .known .given .1 in
+    let found = place-found _ (k .before .before .table-at .ensures) (k .base .given .1) in
+    let known = k .before .before .before .before .known .given .0 .0 in
+    let a = k .before .before .before .before .before .before .before .before .args in
+    let asked = body-asks known (a .table) (k .base .given .0 .0) (a .image .now) (a .t) (found .0) (found .1) in
+    record { answer = rw (e, found .0, eq-eqb _ _ (i .if1 .left)) (ap (λ (speed : ℕ). (0, speed)) (c .speed-of .ensures ∙ rw (c .before .plan-of-body .ensures .answer) asked)) }
+
+pub asked-of-image-spec : {M : Type 1} → statement M
+asked-of-image-spec =
+    tie.close
+    (tie.spec
+    chip-of-requires
+    enum-told
+    enum-known-known
+    table-at-requires
+    enum-told-2
+    enum-known-base
+    returns
+    cast-at
+    sub-plan-of-body
+    part-plan-of-body-start
+    part-plan-of-body-end
+    plan-of-body-requires
+    speed-of-requires
+    returns-2
+    returns-3
+    returns-4)
