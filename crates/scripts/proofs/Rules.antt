@@ -10,8 +10,8 @@ use Rattle.cards.specs.declared.Chip.the-variants.{Nct7802y, F75373s, Nct80}
 use Rattle.plans.specs.Curves.{degree}
 use Rattle.plans.specs.Orders.{Each, MoreDuty, LessCount}
 use Rattle.plans.specs.Plans.{Curve, asks, askedDuty}
-use Rattle.plans.proofs.Slopes.{slope-faster, slope-full, slope-at-most}
-use Rattle.plans.proofs.Steps.{steps-faster, steps-full}
+use Rattle.plans.proofs.SlopeLaws.{slope-faster, slope-full, slope-at-most}
+use Rattle.plans.proofs.StepLaws.{steps-faster, steps-full}
 use Rattle.scripts.specs.Rules.{Rule}
 
 abbrev curve : List ℕ → List ℕ → Curve
