@@ -1,3 +1,5 @@
 pub mod Memory
 pub mod Safe
 pub mod Rules
+pub mod Played
+pub mod Fitting

@@ -8,6 +8,7 @@ use borrow.Author.Tests.{eq-eqb, ne-eqb}
 use lib.Dec.{eqb}
 use lib.ListN.{length, take}
 use Rattle.scripts.specs.Scripts.{Pair, writes}
+use Rattle.scripts.specs.NeverSlower.{Outside}
 
 abbrev pub Memory : Type 0
 Memory = ℕ → ℕ
@@ -29,27 +30,23 @@ pub puts-append : (xs ys : List Pair) (m : Memory) → puts m (xs ++ ys) ≡ put
 puts-append [] ys m = refl
 puts-append (x ∷ xs) ys m = puts-append xs ys (put m x)
 
--- p is none of the positions; no two of the positions are equal
-abbrev pub Away : ℕ → List ℕ → Type 0
-Away p [] = Unit {0}
-Away p (q ∷ qs) = (q ≡ p → ⊥) × Away p qs
-
+-- no two of the positions are equal
 abbrev pub Distinct : List ℕ → Type 0
 Distinct [] = Unit {0}
-Distinct (p ∷ ps) = Away p ps × Distinct ps
+Distinct (p ∷ ps) = Outside p ps × Distinct ps
 
 -- each of the first positions is none of the second
 abbrev pub Disjoint : List ℕ → List ℕ → Type 0
 Disjoint [] qs = Unit {0}
-Disjoint (p ∷ ps) qs = Away p qs × Disjoint ps qs
+Disjoint (p ∷ ps) qs = Outside p qs × Disjoint ps qs
 
 -- a write elsewhere leaves what some registers hold
-pub held-elsewhere : (m : Memory) (p b : ℕ) (qs : List ℕ) → Away p qs → map (put m (p, b)) qs ≡ map m qs
+pub held-elsewhere : (m : Memory) (p b : ℕ) (qs : List ℕ) → Outside p qs → map (put m (p, b)) qs ≡ map m qs
 held-elsewhere m p b [] a = refl
 held-elsewhere m p b (q ∷ qs) a = ap₂ _∷_ (put-elsewhere m p b q (a .0)) (held-elsewhere m p b qs (a .1))
 
 -- and so do writes elsewhere
-pub puts-elsewhere : (ps bs : List ℕ) (m : Memory) (q : ℕ) → Away q ps → puts m (writes ps bs) q ≡ m q
+pub puts-elsewhere : (ps bs : List ℕ) (m : Memory) (q : ℕ) → Outside q ps → puts m (writes ps bs) q ≡ m q
 puts-elsewhere [] bs m q a = refl
 puts-elsewhere (p ∷ ps) [] m q a = refl
 puts-elsewhere (p ∷ ps) (b ∷ bs) m q a =
@@ -88,7 +85,7 @@ always-then P [] ys m a b = b
 always-then P (x ∷ xs) ys m a b = (a .0, always-then P xs ys (put m x) (a .1) b)
 
 -- what follows after each write of a run to some registers from P, and from what another register holds throughout
-pub always-beside : (P Q : Memory → Type 0) (ps bs : List ℕ) (m : Memory) (q v : ℕ) → Away q ps → m q ≡ v
+pub always-beside : (P Q : Memory → Type 0) (ps bs : List ℕ) (m : Memory) (q v : ℕ) → Outside q ps → m q ≡ v
     → ((n : Memory) → n q ≡ v → P n → Q n) → Always P m (writes ps bs) → Always Q m (writes ps bs)
 always-beside P Q [] bs m q v a e f s = f m e s
 always-beside P Q (p ∷ ps) [] m q v a e f s = f m e s

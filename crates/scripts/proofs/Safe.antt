@@ -13,7 +13,8 @@ use Rattle.plans.specs.Orders.{Each, fulls}
 use Rattle.plans.specs.Plans.{Curve}
 use Rattle.scripts.specs.Scripts.{Pair, writes, script}
 use Rattle.scripts.specs.Rules.{Rule}
-use Rattle.scripts.proofs.Memory.{Memory, put, puts, put-there, put-elsewhere, puts-append, Away, Distinct, Disjoint, held-elsewhere, puts-elsewhere, all-elsewhere, all-there, Always, always-cut, always-then, always-beside, always-beside-all}
+use Rattle.scripts.specs.NeverSlower.{Outside}
+use Rattle.scripts.proofs.Memory.{Memory, put, puts, put-there, put-elsewhere, puts-append, Distinct, Disjoint, held-elsewhere, puts-elsewhere, all-elsewhere, all-there, Always, always-cut, always-then, always-beside, always-beside-all}
 
 -- what a table's registers hold
 abbrev pub curveIn : Table → Memory → Curve
@@ -113,7 +114,7 @@ module _ (rule : Rule) (table : Table) (first : Memory) (plan : Curve) (apart : 
   safe-first = early refl (each-same rule (map first (table .speeds)))
 
   -- raising a speed keeps each of the three
-  safe-raise : (m : Memory) (p : ℕ) → Away p (table .settings) → Safe rule table first plan m → Safe rule table first plan (put m (p, rule .full))
+  safe-raise : (m : Memory) (p : ℕ) → Outside p (table .settings) → Safe rule table first plan m → Safe rule table first plan (put m (p, rule .full))
   safe-raise m p a (early e f) =
       early (held-elsewhere m p (rule .full) (table .settings) a ∙ e) (each-raised rule m p (table .speeds) (map first (table .speeds)) (fits .first-full) f)
   safe-raise m p a (raised f) = raised (each-raised rule m p (table .speeds) (fulls (rule .full) (plan .speeds)) fulls-full f)

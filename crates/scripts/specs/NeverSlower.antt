@@ -34,15 +34,18 @@ NeverSlower chip (Speed stop) (Speed old) (Refused r) = ⊥
 NeverSlower chip (Speed stop) (Refused r) plan = ⊥
 NeverSlower chip (Refused r) old plan = ⊥
 
--- a position that is no register of a fan table
-abbrev pub Outside : List ℕ → ℕ → Type 0
-Outside [] k = Unit {0}
-Outside (p ∷ ps) k = (p ≡ k → ⊥) × Outside ps k
+-- each entry has a property
+abbrev pub All : (ℕ → Type 0) → List ℕ → Type 0
+All P [] = Unit {0}
+All P (x ∷ xs) = P x × All P xs
+
+-- a position that is none of some registers
+abbrev pub Outside : ℕ → List ℕ → Type 0
+Outside k registers = All (λ p. p ≡ k → ⊥) registers
 
 -- each entry fits a number of bits
 abbrev pub Within : ℕ → List ℕ → Type 0
-Within bits [] = Unit {0}
-Within bits (x ∷ xs) = (x < 2 ^ bits) × Within bits xs
+Within bits xs = All (λ x. x < 2 ^ bits) xs
 
 -- what its type says of every plan that code holds: the arrays' lengths and the numbers' ranges
 pub record Typed (plan : Plan) : Type 0 where
@@ -66,4 +69,4 @@ pub record Demand3 (chip : Chip) (plan : Plan) (old : List ℕ) (count : ℕ) (n
       → AsksPlan plan t planned
       → stop ≡ planned
   -- "At any stop every byte outside that fan table is as before."
-  pub outside : (k : ℕ) → Outside (positions (tableOf chip (plan .table))) k → getD new k 0 ≡ getD old k 0
+  pub outside : (k : ℕ) → Outside k (positions (tableOf chip (plan .table))) → getD new k 0 ≡ getD old k 0
