@@ -3,3 +3,4 @@ pub mod Safe
 pub mod Rules
 pub mod Played
 pub mod Fitting
+pub mod NeverSlower

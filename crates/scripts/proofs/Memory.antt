@@ -99,3 +99,24 @@ always-beside-all P Q [] bs m qs vs d e f s = f m e s
 always-beside-all P Q (p ∷ ps) [] m qs vs d e f s = f m e s
 always-beside-all P Q (p ∷ ps) (b ∷ bs) m qs vs d e f s =
     (f m e (s .0), always-beside-all P Q ps bs (put m (p, b)) qs vs (d .1) (held-elsewhere m p b qs (d .0) ∙ e) f (s .1))
+
+-- each write goes elsewhere than to q
+abbrev pub AllElsewhere : ℕ → List Pair → Type 0
+AllElsewhere q [] = Unit {0}
+AllElsewhere q (w ∷ ws) = (q ≡ w .0 → ⊥) × AllElsewhere q ws
+
+pub elsewhere-writes : (q : ℕ) (ps bs : List ℕ) → Outside q ps → AllElsewhere q (writes ps bs)
+elsewhere-writes q [] bs o = tt
+elsewhere-writes q (p ∷ ps) [] o = tt
+elsewhere-writes q (p ∷ ps) (b ∷ bs) o = (λ e. o .0 (sym e), elsewhere-writes q ps bs (o .1))
+
+pub elsewhere-append : (q : ℕ) (xs ys : List Pair) → AllElsewhere q xs → AllElsewhere q ys → AllElsewhere q (xs ++ ys)
+elsewhere-append q [] ys h k = k
+elsewhere-append q (x ∷ xs) ys h k = (h .0, elsewhere-append q xs ys (h .1) k)
+
+-- so that after any number of them q holds what it held
+pub cut-elsewhere : (q : ℕ) (ws : List Pair) (m : Memory) → AllElsewhere q ws → (k : ℕ) → puts m (take k ws) q ≡ m q
+cut-elsewhere q [] m h zero = refl
+cut-elsewhere q [] m h (suc k) = refl
+cut-elsewhere q (w ∷ ws) m h zero = refl
+cut-elsewhere q (w ∷ ws) m h (suc k) = cut-elsewhere q ws (put m w) (h .1) k ∙ put-elsewhere m (w .0) (w .1) q (h .0)

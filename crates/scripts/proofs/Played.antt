@@ -81,11 +81,11 @@ all-of : (P : ℕ → Type 0) (xs : List ℕ) → ((k : ℕ) → k < length xs �
 all-of P [] h = tt
 all-of P (x ∷ xs) h = (h 0 (omega arith), all-of P xs (λ k l. h (suc k) (suc-le-suc l)))
 
-all-left : (P : ℕ → Type 0) (xs ys : List ℕ) → All P (xs ++ ys) → All P xs
+pub all-left : (P : ℕ → Type 0) (xs ys : List ℕ) → All P (xs ++ ys) → All P xs
 all-left P [] ys a = tt
 all-left P (x ∷ xs) ys a = (a .0, all-left P xs ys (a .1))
 
-all-right : (P : ℕ → Type 0) (xs ys : List ℕ) → All P (xs ++ ys) → All P ys
+pub all-right : (P : ℕ → Type 0) (xs ys : List ℕ) → All P (xs ++ ys) → All P ys
 all-right P [] ys a = a
 all-right P (x ∷ xs) ys a = all-right P xs ys (a .1)
 
