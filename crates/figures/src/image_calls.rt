@@ -1,5 +1,6 @@
 // Each call on an image, at known and unknown chip numbers and at lengths about 256. A lent buffer is filled with 5Ah beforehand, and a
 // refusal says whether it still is: `CALL chip C length L ..`.
+use crate::numbers;
 use crate::print;
 use images::ByteRead;
 use images::Outcome;
@@ -35,15 +36,10 @@ fn is_filled(buffer: &[u8]) -> bool {
     true
 }
 
-// A sum in sixteen bits.
-fn plus(a: u64, b: u64) -> u64 {
-    (a % 65536 + b % 65536) % 65536
-}
-
 fn sum(image: &[u8]) -> u64 {
     let mut total: u64 = 0;
     for k in 0..image.len() {
-        total = plus(total, wide(image[k]));
+        total = numbers::plus(total, wide(image[k]));
     }
     total
 }
@@ -171,7 +167,7 @@ fn bits_seen(chip: u8, image: &mut [u8], at: usize) -> u64 {
     let mut seen: u64 = 0;
     for bit in 0..8u8 {
         turn(image, at, bit);
-        seen = plus(seen, undone(chip, image));
+        seen = numbers::plus(seen, undone(chip, image));
         turn(image, at, bit);
     }
     seen
@@ -193,7 +189,7 @@ pub fn print_identity_bits(chip: u8) {
 fn all_bits_seen(chip: u8, image: &mut [u8]) -> u64 {
     let mut seen: u64 = 0;
     for at in 0..256 {
-        seen = plus(seen, bits_seen(chip, image, at));
+        seen = numbers::plus(seen, bits_seen(chip, image, at));
     }
     seen
 }

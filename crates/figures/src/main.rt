@@ -1,11 +1,16 @@
 // Prints the rows of the cards and what the calls answer. What it must print is written from the papers and not from a run.
 mod image_calls;
+mod numbers;
 mod print;
+mod readings_lines;
 mod rows;
+mod watch_lines;
 
 fn main() {
     rows::print_all();
     image_calls::print_all();
     image_calls::print_identity_bits(1);
     image_calls::print_identity_bits(2);
+    readings_lines::print_all();
+    watch_lines::print_all();
 }

@@ -1,0 +1,147 @@
+// Histories of the alarm watch, sample by sample, in each behaviour: `watch BEHAVIOUR new ..`, `watch BEHAVIOUR limits H L sample N ..` and
+// `watch BEHAVIOUR acknowledge ..`, each with what the watch then holds and shows.
+use crate::print;
+use watch::Behaviour;
+use watch::Sampled;
+use watch::Watch;
+
+fn begin(watch: Watch) {
+    print::text(b"watch ");
+    let behaviour = watch.behaviour;
+    match behaviour {
+        Behaviour::Default => print::text(b"default"),
+        Behaviour::OneTime => print::text(b"one-time"),
+        Behaviour::Comparator => print::text(b"comparator"),
+    }
+}
+
+fn on_or_off(on: bool) {
+    if on {
+        print::text(b" on");
+    } else {
+        print::text(b" off");
+    }
+}
+
+fn end(watch: Watch) {
+    print::text(b" hot");
+    on_or_off(watch.hot);
+    print::text(b" pending");
+    on_or_off(watch.pending);
+    print::text(b" output");
+    on_or_off(watch.output());
+    print::text(b"\n");
+}
+
+fn started(behaviour: Behaviour) -> Watch {
+    let watch = Watch::new(behaviour);
+    begin(watch);
+    print::text(b" new");
+    end(watch);
+    watch
+}
+
+// The watch after a sample; a refusal says so.
+fn told(sampled: Sampled) -> Watch {
+    match sampled {
+        Sampled::Taken(watch) => watch,
+        Sampled::Refused(r, watch) => {
+            print::refused(r);
+            watch
+        }
+    }
+}
+
+fn in_sixteen_bits(degrees: i8) -> i16 {
+    degrees as i16
+}
+
+fn sample(watch: Watch, steps: i16, high: i8, hysteresis: i8) -> Watch {
+    begin(watch);
+    print::text(b" limits ");
+    print::signed(in_sixteen_bits(high));
+    print::text(b" ");
+    print::signed(in_sixteen_bits(hysteresis));
+    print::text(b" sample ");
+    print::signed(steps);
+    let after = told(watch.sample(steps, high, hysteresis));
+    end(after);
+    after
+}
+
+fn acknowledge(watch: Watch) -> Watch {
+    let after = watch.acknowledge();
+    begin(after);
+    print::text(b" acknowledge");
+    end(after);
+    after
+}
+
+// The rules paper's history: 81, 78, acknowledge, 78 degrees.
+fn figure(behaviour: Behaviour) {
+    let mut watch = started(behaviour);
+    watch = sample(watch, 1296, 80, 75);
+    watch = sample(watch, 1248, 80, 75);
+    watch = acknowledge(watch);
+    sample(watch, 1248, 80, 75);
+}
+
+// Exactly at a limit nothing changes, and a step beyond it hot does.
+fn at_the_limits(behaviour: Behaviour) {
+    let mut watch = started(behaviour);
+    watch = sample(watch, 1280, 80, 75);
+    watch = sample(watch, 1281, 80, 75);
+    watch = sample(watch, 1280, 80, 75);
+    watch = sample(watch, 1200, 80, 75);
+    watch = sample(watch, 1199, 80, 75);
+    sample(watch, 1200, 80, 75);
+}
+
+fn refused_samples(before: Watch) -> Watch {
+    let mut watch = sample(before, 2048, 80, 75);
+    watch = sample(watch, -2049, 80, 75);
+    watch = sample(watch, 32767, 80, 75);
+    sample(watch, -32768, 80, 75)
+}
+
+// Refused samples leave a watch that is cold as it was, and one that is hot; the ends of the twelve bits are taken.
+fn at_the_ends(behaviour: Behaviour) {
+    let mut watch = refused_samples(started(behaviour));
+    watch = sample(watch, 2047, 80, 75);
+    watch = refused_samples(watch);
+    sample(watch, -2048, 80, 75);
+}
+
+// With the hysteresis limit above the high limit the high limit decides.
+fn limits_crossed(behaviour: Behaviour) {
+    let mut watch = started(behaviour);
+    watch = sample(watch, 1200, 75, 80);
+    watch = sample(watch, 1201, 75, 80);
+    watch = sample(watch, 1279, 75, 80);
+    sample(watch, 1200, 75, 80);
+}
+
+// Once acknowledged, one-time waits for it to cool before the next alarm.
+fn second_alarm(behaviour: Behaviour) {
+    let mut watch = started(behaviour);
+    watch = sample(watch, 1296, 80, 75);
+    watch = acknowledge(watch);
+    watch = sample(watch, 1296, 80, 75);
+    watch = acknowledge(watch);
+    watch = sample(watch, 1199, 80, 75);
+    sample(watch, 1296, 80, 75);
+}
+
+fn histories(behaviour: Behaviour) {
+    figure(behaviour);
+    at_the_limits(behaviour);
+    at_the_ends(behaviour);
+    limits_crossed(behaviour);
+    second_alarm(behaviour);
+}
+
+pub fn print_all() {
+    histories(Behaviour::Default);
+    histories(Behaviour::OneTime);
+    histories(Behaviour::Comparator);
+}
