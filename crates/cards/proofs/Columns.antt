@@ -8,11 +8,11 @@ use lib.ListN.{length, getD}
 use Rattle.cards.specs.declared.Row.{Row}
 use Rattle.cards.specs.Rows.{Line, row, rowIn, run, column}
 
-run-length : (f : ℕ → ℕ) (first n : ℕ) → length (run f first n) ≡ n
+pub run-length : (f : ℕ → ℕ) (first n : ℕ) → length (run f first n) ≡ n
 run-length f first zero = refl
 run-length f first (suc n) = ap suc (run-length f (suc first) n)
 
-run-at : (f : ℕ → ℕ) (first n k : ℕ) → k < n → getD (run f first n) k 0 ≡ f (first + k)
+pub run-at : (f : ℕ → ℕ) (first n k : ℕ) → k < n → getD (run f first n) k 0 ≡ f (first + k)
 run-at f first zero k h = absurd (not-suc-le-zero h)
 run-at f first (suc n) zero h = ap f (sym (add-zero first))
 run-at f first (suc n) (suc k) h =

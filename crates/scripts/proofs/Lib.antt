@@ -4,3 +4,4 @@ pub mod Rules
 pub mod Played
 pub mod Fitting
 pub mod NeverSlower
+pub mod Pairs

@@ -1,6 +1,7 @@
 -- Registers as a function from positions to bytes: what one write changes, what a run of writes changes, and what holds after each write of a run.
 -- Assumes nothing.
 use Prim.Native.Nat.{ℕ, zero, suc}
+use native.Mathlib.Nat.{suc-inj}
 use mathlib.Core.Path.{_≡_, refl, sym, ap, ap₂, subst, _∙_}
 use mathlib.Core.Bool.{cond, true, false}
 use mathlib.Core.List.{List, [], _∷_, _++_, map}
@@ -64,10 +65,7 @@ all-there [] [] m d e = refl
 all-there [] (b ∷ bs) m d e = cc
 all-there (p ∷ ps) [] m d e = cc
 all-there (p ∷ ps) (b ∷ bs) m d e =
-    ap₂ _∷_ (puts-elsewhere ps bs (put m (p, b)) p (d .0) ∙ put-there m p b) (all-there ps bs (put m (p, b)) (d .1) (suc-injective e))
-  where
-    suc-injective : {a c : ℕ} → suc a ≡ suc c → a ≡ c
-    suc-injective q = cc
+    ap₂ _∷_ (puts-elsewhere ps bs (put m (p, b)) p (d .0) ∙ put-there m p b) (all-there ps bs (put m (p, b)) (d .1) (suc-inj e))
 
 -- P holds of m and after each further write
 abbrev pub Always : (Memory → Type 0) → Memory → List Pair → Type 0

@@ -2,6 +2,7 @@
 -- writable. A table's registers stand apart, so a script moves no other byte.
 -- Assumes nothing.
 use Prim.Native.Nat.{ℕ, zero, suc, _<_, _^_, suc-le-suc}
+use native.Mathlib.Nat.{suc-inj}
 use native.Mathlib.Omega.{arith}
 use mathlib.Core.Path.{_≡_, refl, sym, ap, subst, _∙_}
 use mathlib.Core.Bool.{Bool, true, false, So, cond}
@@ -94,11 +95,8 @@ distinct-of : (xs : List ℕ) → ((j k : ℕ) → j < length xs → k < length 
 distinct-of [] h = tt
 distinct-of (x ∷ xs) h = (
   all-of (λ q. q ≡ x → ⊥) xs (λ k l e. absurd (omega (arith, h (suc k) 0 (suc-le-suc l) (omega arith) e))),
-  distinct-of xs (λ j k l m e. suc-injective (h (suc j) (suc k) (suc-le-suc l) (suc-le-suc m) e)),
+  distinct-of xs (λ j k l m e. suc-inj (h (suc j) (suc k) (suc-le-suc l) (suc-le-suc m) e)),
 )
-  where
-    suc-injective : {a b : ℕ} → suc a ≡ suc b → a ≡ b
-    suc-injective q = cc
 
 distinct-left : (xs ys : List ℕ) → Distinct (xs ++ ys) → Distinct xs
 distinct-left [] ys d = tt
