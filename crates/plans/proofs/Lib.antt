@@ -6,3 +6,4 @@ pub mod Walks
 pub mod Registers
 pub mod Unique
 pub mod Figures
+pub mod Laws

@@ -45,7 +45,7 @@ accepted : {plan : Plan} {old new : List ℕ} {count n : ℕ} (chip : Chip) → 
     → Accepted chip plan old
 accepted {plan} {old} chip e p =
     let none : 0 ≡ first (playChecks plan old) = ap (λ (t : ℕ × ℕ). t .0) (p .answer) in
-    let checks = all-passed (playChecks plan old) refl none in
+    let checks = all-passed (playChecks plan old) refl (sym none) in
     record {
       has = not-false (hasTable chip (plan .table)) (rw e at (checks .1 .0));
       long = eqb-true (length old) 256 (not-false (eqb (length old) 256) (checks .1 .1 .1 .1 .0));

@@ -1,0 +1,143 @@
+-- "Plan record and script": what a plan's record is, what its reader and its writer check and answer; and the contracts of `records`.
+-- Assumes nothing.
+use Prim.Native.Nat.{ℕ, _+_}
+use mathlib.Core.Path.{_≡_}
+use mathlib.Core.Bool.{Bool, false, cond, not, _&&_}
+use mathlib.Core.List.{List, [], _∷_, _++_}
+use lib.Dec.{eqb, ltb}
+use lib.ListN.{length, getD, drop}
+use Rattle.refusal.specs.declared.Refusal.{Refusal}
+use Rattle.refusal.specs.Refusals.{numberOf}
+use Rattle.refusal.specs.Checks.{Check, first, told, left}
+use Rattle.cards.specs.declared.Chip.{Chip}
+use Rattle.cards.specs.declared.Chip.the-variants.{Nct7802y, F75373s, Nct80}
+use Rattle.cards.specs.Cards.{chipOf, whenKnown, unknown, hasTable, noTable}
+use Rattle.plans.specs.declared.Plan.{Plan}
+use Rattle.plans.specs.Plans.{Curve, planned, zeros, decoded, temperaturesOut, speedsOut, planChecks}
+use Rattle.records.specs.declared.Used.{Used}
+use Rattle.records.specs.declared.Used.the-variants as used
+use Rattle.records.specs.declared.Found.{Found}
+
+-- "a two-byte mark 43h 50h before each plan, chip, table"
+abbrev pub header : ℕ → ℕ → List ℕ
+header chip table = 0x43 ∷ 0x50 ∷ chip ∷ table ∷ []
+
+-- "then the body in the register order": settings, then speeds
+abbrev pub body : Curve → List ℕ
+body curve = curve .settings ++ curve .speeds
+
+-- "9 bytes for chip 1, 14 for chip 2"
+abbrev pub bodyLength : Chip → ℕ
+bodyLength Nct7802y = 9
+bodyLength F75373s = 14
+bodyLength Nct80 = 0
+
+-- "the bytes used, 13 or 18"
+abbrev pub recordLength : Chip → ℕ
+recordLength chip = 4 + bodyLength chip
+
+-- a plan's record
+abbrev pub recordOf : Chip → Plan → List ℕ
+recordOf chip plan = header (plan .chip) (plan .table) ++ body (planned chip plan)
+
+abbrev pub encoded : Plan → List ℕ
+encoded plan = whenKnown (chipOf (plan .chip)) (λ chip. recordOf chip plan) []
+
+-- the chip's number, the table's number and the body in a record's bytes
+abbrev pub chipIn : List ℕ → ℕ
+chipIn bytes = getD bytes 2 0
+
+abbrev pub tableIn : List ℕ → ℕ
+tableIn bytes = getD bytes 3 0
+
+abbrev pub bodyIn : List ℕ → List ℕ
+bodyIn bytes = drop 4 bytes
+
+-- "zero in every other part of the answer"
+abbrev pub noPlan : Plan
+noPlan =
+    record {
+      chip = 0;
+      table = 0;
+      temperatures = zeros 4;
+      critical = 0;
+      duties = zeros 4;
+      bounds = zeros 4;
+      counts = zeros 5;
+    }
+
+-- the plan in a record's bytes; bytes behind the body do not matter
+abbrev pub planIn : List ℕ → Plan
+planIn bytes = whenKnown (chipOf (chipIn bytes)) (λ chip. decoded chip (tableIn bytes) (bodyIn bytes)) noPlan
+
+-- refusal 1: "a plan record has fewer than 4 bytes left"
+abbrev pub headerCutShort : List ℕ → Bool
+headerCutShort bytes = ltb (length bytes) 4
+
+-- refusal 2: "its mark is not 43h 50h"
+abbrev pub wrongMark : List ℕ → Bool
+wrongMark bytes = not (eqb (getD bytes 0 0) 0x43 && eqb (getD bytes 1 0) 0x50)
+
+-- refusal 5: "the record's body is cut short"
+abbrev pub bodyCutShort : List ℕ → Bool
+bodyCutShort bytes = whenKnown (chipOf (chipIn bytes)) (λ chip. ltb (length (bodyIn bytes)) (bodyLength chip)) false
+
+-- "Checks run in this order": 1 to 7
+abbrev pub recordChecks : List ℕ → List Check
+recordChecks bytes =
+    (headerCutShort bytes, 1)
+    ∷ (wrongMark bytes, 2)
+    ∷ (unknown (chipIn bytes), 3)
+    ∷ (noTable (chipIn bytes) (tableIn bytes), 4)
+    ∷ (bodyCutShort bytes, 5)
+    ∷ (temperaturesOut (planIn bytes), 6)
+    ∷ (speedsOut (planIn bytes), 7)
+    ∷ []
+
+-- refusal 9: "the output buffer is shorter than the result"
+abbrev pub roomChecks : List ℕ → List ℕ → List Check
+roomChecks result out = (ltb (length out) (length result), 9) ∷ []
+
+-- "Writing a plan record .. checks the plan by 3, 4, 6, 7 and then 9"
+abbrev pub writeChecks : Plan → List ℕ → List Check
+writeChecks plan out = planChecks plan ++ roomChecks (encoded plan) out
+
+-- the paper's number and the number of bytes of an answer
+abbrev pub tellsUsed : Used → ℕ × ℕ
+tellsUsed (used.Bytes n) = (0, n)
+tellsUsed (used.Refused r) = (numberOf r, 0)
+
+-- what `records::read` promises: "The reader answers the plan and the bytes used". The bytes are only read, so they are what they were.
+pub record Reads (bytes : List ℕ) (r : Found) : Type 0 where
+  pub answer : tellsUsed (r .answer) ≡ told (recordChecks bytes) (whenKnown (chipOf (chipIn bytes)) recordLength 0)
+  pub plan : r .plan ≡ cond (eqb (first (recordChecks bytes)) 0) (planIn bytes) noPlan
+
+-- what `records::write` promises: "An output longer than the result keeps its tail", and a refused one holds what it held
+pub record Writes (plan : Plan) (old : List ℕ) (r : Used) (new : List ℕ) : Type 0 where
+  pub answer : tellsUsed r ≡ told (writeChecks plan old) (length (encoded plan))
+  pub bytes : new ≡ left (writeChecks plan old) (encoded plan ++ drop (length (encoded plan)) old) old
+
+-- The contracts of the parts.
+-- a refused record
+pub record Refuses (refusal : Refusal) (r : Found) : Type 0 where
+  pub answer : r .answer ≡ used.Refused refusal
+  pub plan : r .plan ≡ noPlan
+
+-- the checks of a record behind those of its header
+abbrev pub bodyChecks : Chip → ℕ → List ℕ → List Check
+bodyChecks chip table rest =
+    (not (hasTable chip table), 4)
+    ∷ (ltb (length rest) (bodyLength chip), 5)
+    ∷ (temperaturesOut (decoded chip table rest), 6)
+    ∷ (speedsOut (decoded chip table rest), 7)
+    ∷ []
+
+-- a record behind its header
+pub record ReadsBody (chip : Chip) (table : ℕ) (rest : List ℕ) (r : Found) : Type 0 where
+  pub answer : tellsUsed (r .answer) ≡ told (bodyChecks chip table rest) (recordLength chip)
+  pub plan : r .plan ≡ cond (eqb (first (bodyChecks chip table rest)) 0) (decoded chip table rest) noPlan
+
+-- a result put to the front of a buffer
+pub record Puts (result old : List ℕ) (r : Used) (new : List ℕ) : Type 0 where
+  pub answer : tellsUsed r ≡ told (roomChecks result old) (length result)
+  pub bytes : new ≡ left (roomChecks result old) (result ++ drop (length result) old) old
