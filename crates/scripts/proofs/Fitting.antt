@@ -56,29 +56,40 @@ unfolding halves
 within-halves [] h = tt
 within-halves (c ∷ cs) h = (omega (arith, h .0), (omega arith, within-halves cs (h .1)))
 
-halves-length : (cs : List ℕ) → length (halves cs) ≡ length cs + length cs
+pub halves-length : (cs : List ℕ) → length (halves cs) ≡ length cs + length cs
 unfolding halves
 halves-length [] = refl
 halves-length (c ∷ cs) = omega (arith, halves-length cs)
 
--- a chip's plan fills each of its tables
-settings-fill : (chip : Chip) (plan : Plan) → Typed plan → So (hasTable chip (plan .table))
-    → length (tableOf chip (plan .table) .settings) ≡ length (planned chip plan .settings)
-settings-fill Nct7802y plan typed has =
-    ap (λ (t : Table). length (t .settings)) (table-at-base Nct7802y (plan .table) has)
-    ∙ sym (length-append (plan .temperatures) (plan .critical ∷ []) ∙ ap (λ (n : ℕ). n + 1) (typed .temperatures .0))
-settings-fill F75373s plan typed has =
-    ap (λ (t : Table). length (t .settings)) (table-at-base F75373s (plan .table) has) ∙ sym (typed .bounds .0)
-settings-fill Nct80 plan typed has = absurd (omega (arith, table-number Nct80 (plan .table) has .0, table-number Nct80 (plan .table) has .1))
+-- how long the arrays of a plan are
+pub record Lengths (plan : Plan) : Type 0 where
+  pub temperatures : length (plan .temperatures) ≡ 4
+  pub duties : length (plan .duties) ≡ 4
+  pub bounds : length (plan .bounds) ≡ 4
+  pub counts : length (plan .counts) ≡ 5
 
-speeds-fill : (chip : Chip) (plan : Plan) → Typed plan → So (hasTable chip (plan .table))
+lengths : {plan : Plan} → Typed plan → Lengths plan
+lengths typed =
+    record { temperatures = typed .temperatures .0; duties = typed .duties .0; bounds = typed .bounds .0; counts = typed .counts .0 }
+
+-- a chip's plan fills each of its tables
+pub settings-fill : (chip : Chip) (plan : Plan) → Lengths plan → So (hasTable chip (plan .table))
+    → length (tableOf chip (plan .table) .settings) ≡ length (planned chip plan .settings)
+settings-fill Nct7802y plan long has =
+    ap (λ (t : Table). length (t .settings)) (table-at-base Nct7802y (plan .table) has)
+    ∙ sym (length-append (plan .temperatures) (plan .critical ∷ []) ∙ ap (λ (n : ℕ). n + 1) (long .temperatures))
+settings-fill F75373s plan long has =
+    ap (λ (t : Table). length (t .settings)) (table-at-base F75373s (plan .table) has) ∙ sym (long .bounds)
+settings-fill Nct80 plan long has = absurd (omega (arith, table-number Nct80 (plan .table) has .0, table-number Nct80 (plan .table) has .1))
+
+pub speeds-fill : (chip : Chip) (plan : Plan) → Lengths plan → So (hasTable chip (plan .table))
     → length (tableOf chip (plan .table) .speeds) ≡ length (planned chip plan .speeds)
-speeds-fill Nct7802y plan typed has =
-    ap (λ (t : Table). length (t .speeds)) (table-at-base Nct7802y (plan .table) has) ∙ sym (typed .duties .0)
-speeds-fill F75373s plan typed has =
+speeds-fill Nct7802y plan long has =
+    ap (λ (t : Table). length (t .speeds)) (table-at-base Nct7802y (plan .table) has) ∙ sym (long .duties)
+speeds-fill F75373s plan long has =
     ap (λ (t : Table). length (t .speeds)) (table-at-base F75373s (plan .table) has)
-    ∙ sym (halves-length (plan .counts) ∙ ap (λ (n : ℕ). n + n) (typed .counts .0))
-speeds-fill Nct80 plan typed has = absurd (omega (arith, table-number Nct80 (plan .table) has .0, table-number Nct80 (plan .table) has .1))
+    ∙ sym (halves-length (plan .counts) ∙ ap (λ (n : ℕ). n + n) (long .counts))
+speeds-fill Nct80 plan long has = absurd (omega (arith, table-number Nct80 (plan .table) has .0, table-number Nct80 (plan .table) has .1))
 
 none-faster : (chip : Chip) (l : List ℕ) → Within 8 l → Each (ruleOf chip .Fast) (fulls (ruleOf chip .full) l) l
 none-faster Nct7802y l h = duty-full l h
@@ -104,8 +115,8 @@ module _ (chip : Chip) (plan : Plan) (typed : Typed plan) (has : So (hasTable ch
   pub plan-fits : (old : List ℕ) → Within 8 old → Fits (ruleOf chip) (tableOf chip (plan .table)) (bytesOf old) (planned chip plan)
   plan-fits old bytes =
       record {
-        settings = settings-fill chip plan typed has;
-        speeds = speeds-fill chip plan typed has;
+        settings = settings-fill chip plan (lengths typed) has;
+        speeds = speeds-fill chip plan (lengths typed) has;
         first-full = none-faster chip (map (bytesOf old) (tableOf chip (plan .table) .speeds)) (bytes-at old (tableOf chip (plan .table) .speeds) bytes);
         plan-full = none-faster chip (planned chip plan .speeds) (speeds-within chip plan typed);
       }

@@ -5,3 +5,7 @@ pub mod Played
 pub mod Fitting
 pub mod NeverSlower
 pub mod Pairs
+pub mod Turns
+pub mod Prepared
+pub mod Answers
+pub mod Unique

@@ -13,13 +13,11 @@ use Rattle.cards.proofs.Columns.{run-length, run-at}
 use Rattle.plans.specs.Curves.{points}
 use Rattle.plans.specs.Orders.{fulls}
 use Rattle.plans.specs.Plans.{Curve}
+use Rattle.records.specs.Records.{body}
 use Rattle.scripts.specs.Scripts.{Pair, writes, script}
 
 abbrev pub nothing : Pair
 nothing = (0, 0)
-
-abbrev pub body : Curve → List ℕ
-body curve = curve .settings ++ curve .speeds
 
 writes-length : (ps bs : List ℕ) → length ps ≡ length bs → length (writes ps bs) ≡ length ps
 writes-length [] bs e = refl

@@ -1,3 +1,4 @@
 pub mod Scripts
 pub mod Rules
 pub mod NeverSlower
+pub mod Making

@@ -1,0 +1,185 @@
+-- What is laid out from a plan's record is its script: the record's body stands behind its header in register order, and a table's registers stand in a row.
+-- Assumes nothing.
+use Prim.Native.Nat.{ℕ, zero, suc, _+_, _-_, _*_, _≤_, _<_}
+use native.Mathlib.Nat.{add-assoc}
+use native.Mathlib.Numerals.{add-one}
+use native.Mathlib.Omega.{arith}
+use mathlib.Core.Path.{_≡_, refl, sym, ap, ap₂, subst, _∙_}
+use mathlib.Core.Bool.{Bool, true, false, So, cond, not, false≢true, true≢false}
+use mathlib.Core.List.{List, [], _∷_, _++_, append-assoc}
+use borrow.Author.Tests.{ltb-true, ltb-false, lt-ltb, le-ltb, not-false}
+use lib.Dec.{eqb, ltb}
+use lib.ListN.{length, getD, take, drop, length-append, List·getD-append}
+use lib.Seq.{take-suc, getD-append-add}
+use Rattle.refusal.specs.Checks.{first}
+use Rattle.refusal.proofs.Passed.{Passed, all-passed, first-passed, first-refused}
+use Rattle.cards.specs.declared.Chip.{Chip}
+use Rattle.cards.specs.declared.Chip.the-variants.{Nct7802y, F75373s, Nct80}
+use Rattle.cards.specs.declared.Named.{Named}
+use Rattle.cards.specs.declared.Named.the-variants.{Known, Unknown}
+use Rattle.cards.specs.Rows.{Table}
+use Rattle.cards.specs.Cards.{chipOf, whenKnown, hasTable, tableOf, tableAt, baseOf, noTable}
+use Rattle.cards.proofs.Tables.{table-number, table-at-base}
+use Rattle.plans.specs.declared.Plan.{Plan}
+use Rattle.plans.specs.Plans.{Curve, planned, planChecks}
+use Rattle.records.specs.Records.{header, body, recordOf, encoded, tellsUsed, roomChecks, writeChecks, Writes}
+use Rattle.records.specs.declared.Used.{Used}
+use Rattle.scripts.specs.declared.making.Script.{Script}
+use Rattle.scripts.specs.declared.making.Pair as code
+use Rattle.scripts.specs.declared.making.Ready.{Ready}
+use Rattle.scripts.specs.Scripts.{Pair, fullOf, script, scriptOf, scriptFor}
+use Rattle.scripts.specs.Making.{writesOf, pairAt, pairsOf, Sized, laidOut, scriptIn, Describes, tellsReady, Prepares}
+use Rattle.scripts.proofs.Fitting.{Lengths, settings-fill, speeds-fill, halves-length}
+use Rattle.scripts.proofs.Pairs.{nothing, rowTable, script-length, raised-at, body-at}
+
+-- a byte of the body, behind the header and before whatever follows the record
+body-byte : (number table : ℕ) (inside tail : List ℕ) (j : ℕ) → j < length inside
+    → getD ((header number table ++ inside) ++ tail) (4 + j) 0 ≡ getD inside j 0
+body-byte number table inside tail j h =
+    ap (λ (l : List ℕ). getD l (4 + j) 0) (append-assoc (header number table) inside tail)
+    ∙ getD-append-add (header number table) (inside ++ tail) j 0
+    ∙ List·getD-append inside tail 0 j h
+
+-- a list of pairs is described by what stands at each of its places
+described : (s : Script) (pairs : List Pair) → writesOf s ≡ length pairs
+    → ((k : ℕ) → k < length pairs → (pairAt s k .address, pairAt s k .byte) ≡ getD pairs k nothing)
+    → Describes s pairs
+described s pairs e at = record { writes = e; places = places }
+  where
+    places : (n : ℕ) → n ≤ length pairs → pairsOf s n ≡ take n pairs
+    places zero h = refl
+    places (suc n) h =
+        ap₂ (λ (l : List Pair) (w : Pair). l ++ w ∷ []) (places n (omega arith)) (at n h) ∙ sym (take-suc pairs n nothing h)
+
+module _ (full base s v number table : ℕ) (curve : Curve) (tail : List ℕ) (es : length (curve .settings) ≡ s) (ev : length (curve .speeds) ≡ v) where
+  abbrev laid : Script
+  laid = record { base = base; settings = s; speeds = v; full = full; bytes = (header number table ++ body curve) ++ tail }
+
+  abbrev pairs : List Pair
+  pairs = script full (rowTable base s v) curve
+
+  at-place : (k : ℕ) → k < v + (s + v) → (pairAt laid k .address, pairAt laid k .byte) ≡ getD pairs k nothing
+  unfolding pairAt
+  at-place k h = by-side (ltb k v) refl
+    where
+      by-side : (raised : Bool) → ltb k v ≡ raised → (pairAt laid k .address, pairAt laid k .byte) ≡ getD pairs k nothing
+      by-side true t =
+          rw t (ap (λ (a : ℕ). (a, full)) (sym (add-assoc base s k)) ∙ sym (raised-at full base s v curve es ev k (ltb-true k v t)))
+      by-side false t =
+          let past : v ≤ k = ltb-false k v t in
+          let j : k - v < s + v = omega arith in
+          let whole : v + (k - v) ≡ k = omega arith in
+          let long : k - v < length (body curve) = omega (arith, length-append (curve .settings) (curve .speeds)) in
+          rw t
+          (ap (λ (b : ℕ). (base + (k - v), b)) (body-byte number table (body curve) tail (k - v) long)
+          ∙ sym (body-at full base s v curve es ev (k - v) j)
+          ∙ ap (λ (n : ℕ). getD pairs n nothing) whole)
+
+  pub laid-describes : Describes laid pairs
+  laid-describes =
+      described laid pairs (sym (script-length full base s v curve es ev))
+      (λ k h. at-place k (subst (λ (n : ℕ). k < n) (script-length full base s v curve es ev) h))
+
+-- the script laid out from a plan's record, whatever follows the record
+describes-plan : (chip : Chip) (plan : Plan) (tail : List ℕ) → Lengths plan → So (hasTable chip (plan .table))
+    → Describes (laidOut chip (baseOf chip (plan .table)) (recordOf chip plan ++ tail)) (scriptOf chip plan)
+unfolding scriptOf
+describes-plan chip plan tail long has =
+    subst (λ (t : Table). Describes (laidOut chip base (recordOf chip plan ++ tail)) (script (fullOf chip) t (planned chip plan)))
+    (sym (table-at-base chip (plan .table) has)) (by-chip chip es ev)
+  where
+    base : ℕ
+    base = baseOf chip (plan .table)
+
+    es : length (planned chip plan .settings) ≡ length (tableAt chip base .settings)
+    es = sym (settings-fill chip plan long has) ∙ ap (λ (t : Table). length (t .settings)) (table-at-base chip (plan .table) has)
+
+    ev : length (planned chip plan .speeds) ≡ length (tableAt chip base .speeds)
+    ev = sym (speeds-fill chip plan long has) ∙ ap (λ (t : Table). length (t .speeds)) (table-at-base chip (plan .table) has)
+
+    by-chip : (c : Chip) → length (planned c plan .settings) ≡ length (tableAt c base .settings)
+        → length (planned c plan .speeds) ≡ length (tableAt c base .speeds)
+        → Describes (laidOut c base (recordOf c plan ++ tail)) (script (fullOf c) (tableAt c base) (planned c plan))
+    by-chip Nct7802y s v = laid-describes 0xFF base 5 4 (plan .chip) (plan .table) (planned Nct7802y plan) tail s v
+    by-chip F75373s s v = laid-describes 0x00 base 4 10 (plan .chip) (plan .table) (planned F75373s plan) tail s v
+    by-chip Nct80 s v = laid-describes 0x00 base 0 0 (plan .chip) (plan .table) (planned Nct80 plan) tail s v
+
+-- no table reaches past the image
+base-within : (chip : Chip) (number : ℕ) → So (hasTable chip number) → baseOf chip number + 14 < 256
+base-within Nct7802y zero t = absurd (false≢true t)
+base-within Nct7802y (suc zero) t = omega arith
+base-within Nct7802y (suc (suc zero)) t = omega arith
+base-within Nct7802y (suc (suc (suc zero))) t = omega arith
+base-within Nct7802y (suc (suc (suc (suc number)))) t = absurd (omega (arith, table-number Nct7802y (suc (suc (suc (suc number)))) t .1))
+base-within F75373s zero t = absurd (false≢true t)
+base-within F75373s (suc zero) t = omega arith
+base-within F75373s (suc (suc zero)) t = omega arith
+base-within F75373s (suc (suc (suc number))) t = absurd (omega (arith, table-number F75373s (suc (suc (suc number))) t .1))
+base-within Nct80 number t = absurd (omega (arith, table-number Nct80 number t .0, table-number Nct80 number t .1))
+
+sized-laid : (chip : Chip) (base : ℕ) (bytes : List ℕ) → base + 14 < 256 → Sized (laidOut chip base bytes)
+sized-laid Nct7802y base bytes h = record { registers = omega arith; addresses = h }
+sized-laid F75373s base bytes h = record { registers = omega arith; addresses = h }
+sized-laid Nct80 base bytes h = record { registers = omega arith; addresses = h }
+
+pub sized-in : (plan : Plan) (bytes : List ℕ) → Sized (scriptIn plan bytes)
+sized-in plan bytes = by-name (chipOf (plan .chip))
+  where
+    nowhere : Sized (laidOut Nct80 0 bytes)
+    nowhere = sized-laid Nct80 0 bytes (omega arith)
+
+    by-place : (chip : Chip) (has : Bool) → hasTable chip (plan .table) ≡ has
+        → Sized (cond has (laidOut chip (baseOf chip (plan .table)) bytes) (laidOut Nct80 0 bytes))
+    by-place chip true t = sized-laid chip (baseOf chip (plan .table)) bytes (base-within chip (plan .table) t)
+    by-place chip false t = nowhere
+
+    by-name : (named : Named)
+        → Sized (whenKnown named (λ chip. cond (hasTable chip (plan .table)) (laidOut chip (baseOf chip (plan .table)) bytes) (laidOut Nct80 0 bytes)) (laidOut Nct80 0 bytes))
+    by-name (Known chip) = by-place chip (hasTable chip (plan .table)) refl
+    by-name Unknown = nowhere
+
+-- no record is longer than 18 bytes
+record-within : (named : Named) (plan : Plan) → Lengths plan → length (whenKnown named (λ chip. recordOf chip plan) []) ≤ 18
+record-within (Known Nct7802y) plan long = simp length-append (omega (arith, long .temperatures, long .duties))
+record-within (Known F75373s) plan long =
+    simp length-append (omega (arith, long .bounds, long .counts, halves-length (plan .counts)))
+record-within (Known Nct80) plan long = omega arith
+record-within Unknown plan long = omega arith
+
+module _ {plan : Plan} {old bytes : List ℕ} {used : Used} (long : Lengths plan) (room : length old ≡ 18) (w : Writes plan old used bytes) where
+  -- there is room for the record, so only the plan's own checks count
+  pub judged : tellsUsed used .0 ≡ first (planChecks plan)
+  judged = ap (λ (t : ℕ × ℕ). t .0) (w .answer) ∙ by-plan (first (planChecks plan)) refl
+    where
+      fits : ltb (length old) (length (encoded plan)) ≡ false
+      fits = le-ltb (length old) (length (encoded plan)) (omega (arith, record-within (chipOf (plan .chip)) plan long))
+
+      by-plan : (n : ℕ) → first (planChecks plan) ≡ n → first (writeChecks plan old) ≡ first (planChecks plan)
+      by-plan zero e = first-passed (planChecks plan) (roomChecks (encoded plan) old) refl e ∙ rw fits (sym e)
+      by-plan (suc n) e = first-refused (planChecks plan) (roomChecks (encoded plan) old) (omega arith)
+
+  -- and an accepted plan's script is described
+  pub prepared : first (planChecks plan) ≡ 0 → Describes (scriptIn plan bytes) (scriptFor plan)
+  prepared e = by-name (chipOf (plan .chip)) refl
+    where
+      checks : Passed (planChecks plan)
+      checks = all-passed (planChecks plan) refl e
+
+      taken : bytes ≡ encoded plan ++ drop (length (encoded plan)) old
+      taken = w .bytes ∙ ap (λ (n : ℕ). cond (eqb n 0) (encoded plan ++ drop (length (encoded plan)) old) old) (sym (ap (λ (t : ℕ × ℕ). t .0) (w .answer)) ∙ judged ∙ e)
+
+      by-name : (named : Named) → chipOf (plan .chip) ≡ named → Describes (scriptIn plan bytes) (scriptFor plan)
+      by-name (Known chip) q =
+          let has : hasTable chip (plan .table) ≡ true = not-false (hasTable chip (plan .table)) (rw q at (checks .1 .0)) in
+          let whole : bytes ≡ recordOf chip plan ++ drop (length (recordOf chip plan)) old = rw q at taken in
+          rw (q, has, whole) (describes-plan chip plan (drop (length (recordOf chip plan)) old) long has)
+      by-name Unknown q = absurd (true≢false (rw q at (checks .0)))
+
+  pub prepares : (ready : Ready) (s : Script) → tellsReady ready ≡ tellsUsed used .0 → s ≡ scriptIn plan bytes
+      → Prepares plan (record { ready = ready; script = s })
+  prepares ready s e q =
+      record {
+        answer = e ∙ judged;
+        sized = rw q (sized-in plan bytes);
+        pairs = λ z. rw q (prepared z);
+      }

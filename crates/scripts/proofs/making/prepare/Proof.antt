@@ -1,0 +1,61 @@
+-- `making::prepare` meets its contract: the record that is written is the one that the script is laid out from.
+-- Assumes nothing.
+use Rattle.scripts.proofs.Prepared.{prepares}
+use Rattle.scripts.proofs.Fitting.{Lengths}
+use Rattle.scripts.specs.declared.making.Ready.the-variants as ready
+use Rattle.records.specs.Records.{tellsUsed}
+use Rattle.records.specs.declared.Used.{Used}
+use lib.ListN.{length-map}
+use mathlib.Core.Path.{refl, sym, ap, _∙_}
+use borrow.Author.Needs.{needs}
+use Rattle.scripts.proofs.making.prepare.Statement.{statement}
+use Rattle.scripts.proofs.making.prepare.Tie as tie
+
+plan-lengths : (c : tie.Start) → Lengths (c .args .plan)
+plan-lengths c =
+    let fields = c .good .0 .1 .1 .1 .1 in
+    record {
+      temperatures = sym (length-map (c .args .plan .temperatures) (λ v. v)) ∙ fields .0 .1 .0 .1;
+      duties = sym (length-map (c .args .plan .duties) (λ v. v)) ∙ fields .1 .1 .0 .1 .0 .1;
+      bounds = sym (length-map (c .args .plan .bounds) (λ v. v)) ∙ fields .1 .1 .1 .0 .1 .0 .1;
+      counts = sym (length-map (c .args .plan .counts) (λ v. v)) ∙ fields .1 .1 .1 .1 .0 .1 .0 .1;
+    }
+
+slice-aggregate-write : tie.Need-slice-aggregate-write
+slice-aggregate-write c = search needs
+
+write-requires : tie.Need-write-requires
+write-requires c κs = search needs
+
+script-of-requires : tie.Need-script-of-requires
+script-of-requires c κs = search needs
+
+enum-known-used : tie.Need-enum-known-used
+enum-known-used c = search needs
+
+enum-told : tie.Need-enum-told
+enum-told c = search needs
+
+returns : tie.Need-returns
+returns c =
+    let k = c .before .before .before in
+    let wrote = k .before .before in
+    prepares (plan-lengths (wrote .before .before)) refl (wrote .write .ensures) (ready.Refused _) _ (ap (λ (u : Used). tellsUsed u .0) (sym (c .before .used .given .1))) (k .script-of .ensures)
+
+returns-2 : tie.Need-returns-2
+returns-2 c =
+    let k = c .before .before in
+    let wrote = k .before .before in
+    prepares (plan-lengths (wrote .before .before)) refl (wrote .write .ensures) ready.Accepted _ (ap (λ (u : Used). tellsUsed u .0) (sym (c .enum-told .given .1))) (k .script-of .ensures)
+
+pub prepare-spec : {M : Type 1} → statement M
+prepare-spec =
+    tie.close
+    (tie.spec
+    slice-aggregate-write
+    write-requires
+    script-of-requires
+    enum-known-used
+    enum-told
+    returns
+    returns-2)
