@@ -14,7 +14,7 @@ use Rattle.cards.specs.declared.Chip.{Chip}
 use Rattle.cards.specs.declared.Chip.the-variants.{Nct7802y, F75373s, Nct80}
 use Rattle.cards.proofs.Tables.{table-at-base}
 use Rattle.plans.specs.declared.Plan.{Plan}
-use Rattle.plans.specs.Curves.{degree, points, slope, steps, halves, words}
+use Rattle.plans.specs.Curves.{degree, points, slope, steps, words}
 use Rattle.plans.specs.Plans.{Curve, planned, bytesAt, held, decoded, asks}
 use Rattle.plans.proofs.StepLaws.{words-halves}
 

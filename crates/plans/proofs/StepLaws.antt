@@ -1,12 +1,12 @@
 -- The step rule over any number of bounds: smaller count bytes ask no slower, bytes of 00h ask the fastest, and the count asked never rises as T rises.
 -- Assumes nothing.
-use Prim.Native.Nat.{ℕ, zero, suc, _+_, _*_, _/_, _%_, _≤_, _<_}
+use Prim.Native.Nat.{ℕ, zero, suc, _≤_, _<_}
 use native.Mathlib.Nat.{le-refl, le-trans, div-add-mod'}
 use native.Mathlib.Omega.{arith}
 use mathlib.Core.Path.{_≡_, refl}
 use mathlib.Core.Bool.{So, cond, and-eq-true-iff}
 use mathlib.Core.List.{List, [], _∷_}
-use borrow.Author.Tests.{ltb-true, ltb-false, lt-ltb, le-ltb, leb-true}
+use borrow.Author.Tests.{ltb-true, lt-ltb, leb-true}
 use lib.Arith.{digits-div, digits-mod}
 use lib.Dec.{ltb, leb}
 use lib.ListN.{length, replicate}
