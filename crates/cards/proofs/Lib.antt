@@ -3,4 +3,5 @@ pub mod Apart
 pub mod Fixed
 pub mod FixedPoints
 pub mod Tables
+pub mod Numbers
 pub mod Unique

@@ -2,7 +2,7 @@
 -- Assumes nothing.
 use Prim.Native.Nat.{ℕ, _≤_, _<_}
 use mathlib.Core.Path.{_≡_}
-use mathlib.Core.Bool.{true, not}
+use mathlib.Core.Bool.{true, false, not}
 use mathlib.Core.List.{List, [], _∷_, map}
 use borrow.Author.Tests.{not-false}
 use lib.Dec.{lit<}
@@ -12,11 +12,11 @@ use Rattle.refusal.proofs.Passed.{passed}
 use Rattle.cards.specs.declared.Chip.{Chip}
 use Rattle.cards.specs.declared.Chip.the-variants.{Nct7802y, F75373s}
 use Rattle.cards.specs.declared.Named.the-variants.{Known}
-use Rattle.cards.specs.Cards.{chipOf, hasTable}
+use Rattle.cards.specs.Cards.{chipOf, unknown, hasTable, noTable}
 use Rattle.plans.specs.declared.Plan.{Plan}
 use Rattle.plans.specs.Curves.{degree}
 use Rattle.plans.specs.Orders.{Each, fulls, MoreDuty}
-use Rattle.plans.specs.Plans.{planned, asks, temperaturesInOrder, speedsInOrder, planChecks}
+use Rattle.plans.specs.Plans.{planned, asks, temperaturesInOrder, speedsInOrder, temperaturesOut, speedsOut, planChecks}
 use Rattle.plans.proofs.SlopeLaws.{slope-never-falls}
 use Rattle.plans.proofs.StepLaws.{steps-never-rises, words-halves}
 
@@ -35,6 +35,13 @@ accepted chip plan e h =
     let six = passed (not (temperaturesInOrder chip plan)) 6 behind-six (lit< tt) (four .1) in
     let seven = passed (not (speedsInOrder chip plan)) 7 [] (lit< tt) (six .1) in
     record { has = not-false _ (four .0); temperatures = not-false _ (six .0); speeds = not-false _ (seven .0) }
+
+-- it names a chip
+pub accepted-known : (plan : Plan) → first (planChecks plan) ≡ 0 → unknown (plan .chip) ≡ false
+accepted-known plan h =
+    passed (unknown (plan .chip)) 3
+    ((noTable (plan .chip) (plan .table), 4) ∷ (temperaturesOut plan, 6) ∷ (speedsOut plan, 7) ∷ [])
+    (lit< tt) h .0
 
 -- chip 1: the duty asked never falls as T rises
 pub duty-never-falls : (plan : Plan) (t u : ℕ) → Accepted Nct7802y plan → Each MoreDuty (fulls 255 (plan .duties)) (plan .duties)

@@ -1,12 +1,12 @@
 -- A curve in register order: a list is spelled by its places, a table's bytes are those of the body at its base, and a plan asks what its curve does.
 -- Assumes nothing.
-use Prim.Native.Nat.{ℕ, zero, suc, _+_, _-_}
+use Prim.Native.Nat.{ℕ, zero, suc, _+_, _-_, _≤_}
 use native.Mathlib.Nat.{add-zero, add-suc}
 use native.Mathlib.Omega.{arith}
 use mathlib.Core.Path.{_≡_, refl, sym, ap, ap₂, _∙_}
 use mathlib.Core.Bool.{true}
 use mathlib.Core.List.{List, [], _∷_, map}
-use lib.ListN.{length, getD, take, drop, drop-of-length-le, length-drop}
+use lib.ListN.{length, getD, take, drop, length-drop}
 use lib.Seq.{drop-cons, take-all, take-at, getD-at, getD-drop}
 use Rattle.cards.specs.Rows.{Table, from}
 use Rattle.cards.specs.Cards.{hasTable, tableOf, tableAt, baseOf}
@@ -14,18 +14,19 @@ use Rattle.cards.specs.declared.Chip.{Chip}
 use Rattle.cards.specs.declared.Chip.the-variants.{Nct7802y, F75373s, Nct80}
 use Rattle.cards.proofs.Tables.{table-at-base}
 use Rattle.plans.specs.declared.Plan.{Plan}
-use Rattle.plans.specs.Curves.{degree, points, slope, steps, halves, words}
+use Rattle.plans.specs.Curves.{degree, points, slope, steps, words}
 use Rattle.plans.specs.Plans.{Curve, planned, bytesAt, held, decoded, asks}
 use Rattle.plans.proofs.StepLaws.{words-halves}
 
-spelled-from : (l : List ℕ) (k n : ℕ) → length l ≡ k + n → bytesAt l (from k n) ≡ drop k l
-spelled-from l k zero h = sym (drop-of-length-le l {i = k} (omega arith))
-spelled-from l k (suc n) h =
-    ap (λ (m : List ℕ). getD l k 0 ∷ m) (spelled-from l (suc k) n (omega arith)) ∙ sym (drop-cons l k 0 (omega arith))
+-- what stands at n places in a row is a part of the list
+pub in-a-row : (l : List ℕ) (k n : ℕ) → k + n ≤ length l → bytesAt l (from k n) ≡ take n (drop k l)
+in-a-row l k zero h = refl
+in-a-row l k (suc n) h =
+    ap (λ (m : List ℕ). getD l k 0 ∷ m) (in-a-row l (suc k) n (omega arith)) ∙ sym (ap (take (suc n)) (drop-cons l k 0 (omega arith)))
 
--- a list of n numbers is what stands at its n places
+-- so a list of n numbers is what stands at its n places
 pub spelled : (l : List ℕ) (n : ℕ) → length l ≡ n → bytesAt l (from 0 n) ≡ l
-spelled l n h = spelled-from l 0 n (omega arith)
+spelled l n h = in-a-row l 0 n (omega arith) ∙ take-all n l (omega arith)
 
 -- what stands behind a base
 pub shifted : (l : List ℕ) (base k n : ℕ) → bytesAt (drop base l) (from k n) ≡ bytesAt l (from (base + k) n)

@@ -1,15 +1,15 @@
 -- The slope rule over any number of points: more duty in the registers asks no less, full registers ask full, and the duty asked is at most full and never falls as T rises.
 -- Assumes nothing.
 use Prim.Native.Nat.{ℕ, zero, suc, _+_, _*_, _-_, _/_, _≤_, _<_}
-use native.Mathlib.Nat.{le-refl, le-trans, le-div-iff-mul-le, div-mul-le-self, div-zero, zero-lt-suc, mul-le-mul-right, mul-le-mul-left, mul-div-cancel, mul-add, add-mul}
+use native.Mathlib.Nat.{le-refl, le-trans, le-div-iff-mul-le, div-mul-le-self, div-zero, zero-lt-suc, mul-le-mul-right, mul-div-cancel, mul-add}
 use native.Mathlib.Omega.{arith}
 use mathlib.Core.Path.{_≡_, refl, sym, ap, _∙_}
-use mathlib.Core.Bool.{Bool, true, false, So, cond, and-eq-true-iff}
+use mathlib.Core.Bool.{So, cond, and-eq-true-iff}
 use mathlib.Core.List.{List, [], _∷_}
 use borrow.Author.Tests.{leb-true, leb-false, lt-leb}
 use lib.Dec.{leb}
 use lib.ListN.{length, replicate}
-use Rattle.plans.specs.Curves.{Point, points, mean, above, below, slope}
+use Rattle.plans.specs.Curves.{points, mean, above, below, slope}
 use Rattle.plans.specs.Orders.{Each, fulls, MoreDuty, neverFalls}
 use Rattle.plans.proofs.Cases.{both-ways, each-way}
 

@@ -1,12 +1,13 @@
 -- The step rule over any number of bounds: smaller count bytes ask no slower, bytes of 00h ask the fastest, and the count asked never rises as T rises.
 -- Assumes nothing.
-use Prim.Native.Nat.{ℕ, zero, suc, _+_, _*_, _/_, _%_, _≤_, _<_}
+use Prim.Native.Nat.{ℕ, zero, suc, _≤_, _<_}
 use native.Mathlib.Nat.{le-refl, le-trans, div-add-mod'}
 use native.Mathlib.Omega.{arith}
 use mathlib.Core.Path.{_≡_, refl}
 use mathlib.Core.Bool.{So, cond, and-eq-true-iff}
 use mathlib.Core.List.{List, [], _∷_}
-use borrow.Author.Tests.{ltb-true, ltb-false, lt-ltb, le-ltb, leb-true}
+use borrow.Author.Tests.{ltb-true, lt-ltb, leb-true}
+use lib.Arith.{digits-div, digits-mod}
 use lib.Dec.{ltb, leb}
 use lib.ListN.{length, replicate}
 use Rattle.plans.specs.Curves.{steps, halves, words}
@@ -84,3 +85,16 @@ pub words-halves : (counts : List ℕ) → words (halves counts) ≡ counts
 unfolding words halves
 words-halves [] = refl
 words-halves (c ∷ cs) = λ i. div-add-mod' c 256 i ∷ words-halves cs i
+
+-- bytes that come in pairs, the low ones below 256
+abbrev pub Pairs : List ℕ → Type 0
+Pairs [] = Unit {0}
+Pairs (high ∷ []) = ⊥
+Pairs (high ∷ (low ∷ bytes)) = (low < 256) × Pairs bytes
+
+-- such bytes, back from their counts
+pub halves-words : (bytes : List ℕ) → Pairs bytes → halves (words bytes) ≡ bytes
+unfolding words halves
+halves-words [] p = refl
+halves-words (high ∷ []) p = absurd p
+halves-words (high ∷ (low ∷ bytes)) p = λ i. digits-div high (p .0) i ∷ (digits-mod high (p .0) i ∷ halves-words bytes (p .1) i)

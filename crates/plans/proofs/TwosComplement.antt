@@ -1,13 +1,13 @@
 -- `degree` counts a signed byte's degrees from -128: less 128 it is the byte's two's complement value, and it orders bytes as these values do.
 -- Assumes nothing.
-use Prim.Native.Nat.{ℕ, suc, _+_, _-_, _%_, _≤_, _<_}
+use Prim.Native.Nat.{ℕ, _+_, _-_, _≤_, _<_}
 use native.Mathlib.Nat.{lt-of-not-le}
 use native.Mathlib.Omega.{arith}
 use native.Mathlib.Decide.{decLe}
-use mathlib.Core.Path.{_≡_, refl, sym, ap, ap₂, _∙_}
+use mathlib.Core.Path.{_≡_, sym, ap, ap₂, _∙_}
 use borrow.Author.Tests.{lt-ltb, le-ltb, le-leb, lt-leb}
-use lib.Dec.{leb, ltb}
-use lib.IntN.{ℤ, pos, negsuc, subℕ, _-ℤ_}
+use lib.Dec.{leb}
+use lib.IntN.{pos, negsuc, subℕ, _-ℤ_}
 use lib.Signed.{leZ}
 use mir.Syntax.{w8}
 use mir.Val.{toZ}

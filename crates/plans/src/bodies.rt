@@ -1,10 +1,13 @@
 // The values of a body, which holds a fan table's bytes in register order.
+use crate::Plan;
 ghost use mathlib.Core.Path.{_≡_};
+ghost use mathlib.Core.List.{[]};
 ghost use Prim.Native.Nat.{_+_, _*_, _≤_};
 ghost use lib.ListN.{getD};
 ghost use Rattle.cards.specs.Rows.{from};
 ghost use Rattle.plans.specs.Curves.{words};
-ghost use Rattle.plans.specs.Plans.{bytesAt};
+ghost use Rattle.cards.specs.declared.Chip.the-variants.{Nct80};
+ghost use Rattle.plans.specs.Plans.{bytesAt, decoded};
 
 // The byte at a place, and 0 behind the end.
 pub fn byte_at(body: &[u8], at: usize) -> u8
@@ -46,4 +49,19 @@ pub fn counts_at_4(body: &[u8]) -> [u16; 5]
         word_at(body, 10),
         word_at(body, 12),
     ]
+}
+
+// Chip 3 has no fan table, so its plans have no values.
+pub fn no_curve(table: u8) -> Plan
+    ensures { λ r. ⌜ r ≡ decoded Nct80 table [] ⌝ }
+{
+    Plan {
+        chip: 3,
+        table,
+        temperatures: [0; 4],
+        critical: 0,
+        duties: [0; 4],
+        bounds: [0; 4],
+        counts: [0; 5],
+    }
 }

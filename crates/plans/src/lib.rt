@@ -123,15 +123,7 @@ pub fn plan_of_body(chip: Chip, table: u8, body: &[u8]) -> Plan
             bounds: bodies::four_at(body, 0),
             counts: bodies::counts_at_4(body),
         },
-        Chip::Nct80 => Plan {
-            chip: 3,
-            table,
-            temperatures: [0; 4],
-            critical: 0,
-            duties: [0; 4],
-            bounds: [0; 4],
-            counts: [0; 5],
-        },
+        Chip::Nct80 => bodies::no_curve(table),
     }
 }
 

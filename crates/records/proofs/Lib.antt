@@ -1,3 +1,6 @@
 pub mod Copied
 pub mod Chips
 pub mod Answers
+pub mod Unique
+pub mod Encoding
+pub mod RoundTrip

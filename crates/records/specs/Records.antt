@@ -117,6 +117,49 @@ pub record Writes (plan : Plan) (old : List ℕ) (r : Used) (new : List ℕ) : T
   pub answer : tellsUsed r ≡ told (writeChecks plan old) (length (encoded plan))
   pub bytes : new ≡ left (writeChecks plan old) (encoded plan ++ drop (length (encoded plan)) old) old
 
+-- "those of the other chip are zero in what is read": what comes back of a plan
+abbrev pub ownOf : Chip → Plan → Plan
+ownOf Nct7802y plan =
+    record {
+      chip = plan .chip;
+      table = plan .table;
+      temperatures = plan .temperatures;
+      critical = plan .critical;
+      duties = plan .duties;
+      bounds = zeros 4;
+      counts = zeros 5;
+    }
+ownOf F75373s plan =
+    record {
+      chip = plan .chip;
+      table = plan .table;
+      temperatures = zeros 4;
+      critical = 0;
+      duties = zeros 4;
+      bounds = plan .bounds;
+      counts = plan .counts;
+    }
+ownOf Nct80 plan =
+    record {
+      chip = plan .chip;
+      table = plan .table;
+      temperatures = zeros 4;
+      critical = 0;
+      duties = zeros 4;
+      bounds = zeros 4;
+      counts = zeros 5;
+    }
+
+abbrev pub own : Plan → Plan
+own plan = whenKnown (chipOf (plan .chip)) (λ chip. ownOf chip plan) noPlan
+
+-- a plan's arrays are as long as its type says
+pub record Sized (plan : Plan) : Type 0 where
+  pub temperatures : length (plan .temperatures) ≡ 4
+  pub duties : length (plan .duties) ≡ 4
+  pub bounds : length (plan .bounds) ≡ 4
+  pub counts : length (plan .counts) ≡ 5
+
 -- The contracts of the parts.
 -- a refused record
 pub record Refuses (refusal : Refusal) (r : Found) : Type 0 where

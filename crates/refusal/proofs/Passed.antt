@@ -30,6 +30,14 @@ first-passed ((applies, number) ∷ checks) more t e =
     let go = passed applies number checks (ltb-true 0 number (both .0)) e in
     ap (λ (b : Bool). cond b number (first (checks ++ more))) (go .0) ∙ first-passed checks more (both .1) (go .1)
 
+-- and a call that passes all checks passes the first ones
+pub first-front : (checks more : List Check) → So (numbered checks) → first (checks ++ more) ≡ 0 → first checks ≡ 0
+first-front [] more t e = refl
+first-front ((applies, number) ∷ checks) more t e =
+    let both = and-eq-true-iff (ltb 0 number) (numbered checks) .0 t in
+    let go = passed applies number (checks ++ more) (ltb-true 0 number (both .0)) e in
+    ap (λ (b : Bool). cond b number (first checks)) (go .0) ∙ first-front checks more (both .1) (go .1)
+
 -- where one applies, they are not
 pub first-refused : (checks more : List Check) → 0 < first checks → first (checks ++ more) ≡ first checks
 first-refused [] more h = absurd (omega arith)

@@ -28,6 +28,9 @@ counts-at-4-requires c κs = search needs
 enum-told-3 : tie.Need-enum-told-3
 enum-told-3 c = search needs
 
+no-curve-requires : tie.Need-no-curve-requires
+no-curve-requires c κs = search needs
+
 returns : tie.Need-returns
 returns c = record { answer = rw (c .before .before .before .enum-told .given .1, c .before .before .four-at .ensures, c .before .byte-at .ensures, c .four-at2 .ensures) }
 
@@ -35,7 +38,7 @@ returns-2 : tie.Need-returns-2
 returns-2 c = record { answer = rw (c .before .before .enum-told2 .given .1, c .before .four-at3 .ensures, c .counts-at-4 .ensures) }
 
 returns-3 : tie.Need-returns-3
-returns-3 c = record { answer = rw (c .enum-told3 .given .1) }
+returns-3 c = record { answer = rw (c .before .enum-told3 .given .1) (c .no-curve .ensures) }
 
 pub plan-of-body-spec : {M : Type 1} → statement M
 plan-of-body-spec =
@@ -49,6 +52,7 @@ plan-of-body-spec =
     four-at-requires-3
     counts-at-4-requires
     enum-told-3
+    no-curve-requires
     returns
     returns-2
     returns-3)

@@ -2,8 +2,7 @@
 -- Assumes nothing.
 use borrow.Author.Tests.{not-true, not-false}
 use Rattle.plans.proofs.Walks.{last-at}
-use lib.ListN.{length-map}
-use mathlib.Core.Path.{sym, _∙_}
+use mathlib.Core.Path.{sym}
 use borrow.Author.Needs.{needs}
 use Rattle.plans.proofs.orders.rising_to_critical.Statement.{statement}
 use Rattle.plans.proofs.orders.rising_to_critical.Tie as tie

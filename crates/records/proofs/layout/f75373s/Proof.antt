@@ -2,7 +2,7 @@
 -- Assumes nothing.
 use Rattle.records.specs.Records.{header}
 use lib.ListN.{length, length-map}
-use mathlib.Core.List.{List, [], _∷_, _++_}
+use mathlib.Core.List.{List, _++_}
 use mathlib.Core.Path.{_≡_, sym, ap₂, _∙_}
 use Prim.Native.Nat.{ℕ}
 use Rattle.plans.proofs.Registers.{spelled}

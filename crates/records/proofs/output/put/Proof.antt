@@ -2,7 +2,6 @@
 -- Assumes nothing.
 use Rattle.records.proofs.Copied.{Copied, copied-none, copied-more, copied-all, copied-length}
 use borrow.Author.Tests.{lt-ltb, le-ltb}
-use mathlib.Core.Path.{refl}
 use native.Mathlib.Omega.{arith}
 use Prim.Native.Nat.{_-_}
 use borrow.Author.Needs.{needs}

@@ -1,0 +1,87 @@
+-- A plan's record and the plan in a record's bytes undo each other, chip by chip.
+-- Assumes nothing.
+use Prim.Native.Nat.{ℕ, _+_, _≤_, _<_}
+use native.Mathlib.Omega.{arith}
+use mathlib.Core.Path.{_≡_, refl, sym, ap, ap₂, _∙_}
+use mathlib.Core.Bool.{true}
+use mathlib.Core.List.{List, [], _∷_, _++_}
+use lib.ListN.{length, getD, take, length-append}
+use Rattle.refusal.specs.Checks.{first}
+use Rattle.cards.specs.declared.Chip.{Chip}
+use Rattle.cards.specs.declared.Chip.the-variants.{Nct7802y, F75373s, Nct80}
+use Rattle.cards.specs.declared.Named.the-variants.{Known}
+use Rattle.cards.specs.Rows.{Table, from, positions}
+use Rattle.cards.specs.Cards.{chipOf, hasTable, tableOf, tableAt, baseOf}
+use Rattle.cards.proofs.Numbers.{chip-number}
+use Rattle.cards.proofs.Tables.{table-at-base}
+use Rattle.plans.specs.declared.Plan.{Plan}
+use Rattle.plans.specs.Curves.{halves, words}
+use Rattle.plans.specs.Plans.{planned, bytesAt, zeros, decoded, planChecks}
+use Rattle.plans.proofs.StepLaws.{words-halves, halves-words}
+use Rattle.plans.proofs.Registers.{in-a-row, spelled}
+use Rattle.records.specs.Records.{body, bodyLength, ownOf, Sized}
+
+-- "9 bytes for chip 1, 14 for chip 2": as many as each of the chip's tables has registers
+at-base : (chip : Chip) (base : ℕ) → length (positions (tableAt chip base)) ≡ bodyLength chip
+at-base Nct7802y base = refl
+at-base F75373s base = refl
+at-base Nct80 base = refl
+
+pub body-of-table : (chip : Chip) (table : ℕ) → hasTable chip table ≡ true → length (positions (tableOf chip table)) ≡ bodyLength chip
+body-of-table chip table has =
+    ap (λ (t : Table). length (positions t)) (table-at-base chip table has) ∙ at-base chip (baseOf chip table)
+
+-- and as many as a plan's curve has bytes
+halves-length : (counts : List ℕ) → length (halves counts) ≡ length counts + length counts
+unfolding halves
+halves-length [] = refl
+halves-length (c ∷ cs) = omega (arith, halves-length cs)
+
+pub body-of-plan : (chip : Chip) (plan : Plan) → Sized plan → length (body (planned chip plan)) ≡ bodyLength chip
+body-of-plan Nct7802y plan S =
+    omega (
+      arith,
+      length-append (plan .temperatures ++ (plan .critical ∷ [])) (plan .duties),
+      length-append (plan .temperatures) (plan .critical ∷ []),
+      S .temperatures,
+      S .duties,
+    )
+body-of-plan F75373s plan S =
+    omega (arith, length-append (plan .bounds) (halves (plan .counts)), halves-length (plan .counts), S .bounds, S .counts)
+body-of-plan Nct80 plan S = refl
+
+-- a plan's body is decoded to the plan, with the other chip's values zero and whatever stands behind the body
+pub decode-encode : (chip : Chip) (plan : Plan) (rest : List ℕ) → Sized plan → chipOf (plan .chip) ≡ Known chip
+    → decoded chip (plan .table) (body (planned chip plan) ++ rest) ≡ ownOf chip plan
+decode-encode Nct7802y plan rest S e =
+    let undone : List ℕ → List ℕ → Plan = λ ts ds. decoded Nct7802y (plan .table) (((ts ++ (plan .critical ∷ [])) ++ ds) ++ rest) in
+    let of : ℕ → List ℕ → List ℕ → Plan = λ n ts ds. record { chip = n; table = plan .table; temperatures = ts; critical = plan .critical; duties = ds; bounds = zeros 4; counts = zeros 5 } in
+    let ts = spelled (plan .temperatures) 4 (S .temperatures) in
+    let ds = spelled (plan .duties) 4 (S .duties) in
+    sym (ap₂ undone ts ds) ∙ ap₂ (of 1) ts ds ∙ ap (λ (n : ℕ). of n (plan .temperatures) (plan .duties)) (sym (chip-number (plan .chip) Nct7802y e))
+decode-encode F75373s plan rest S e =
+    let undone : List ℕ → List ℕ → Plan = λ bs hs. decoded F75373s (plan .table) ((bs ++ hs) ++ rest) in
+    let of : ℕ → List ℕ → List ℕ → Plan = λ n bs cs. record { chip = n; table = plan .table; temperatures = zeros 4; critical = 0; duties = zeros 4; bounds = bs; counts = cs } in
+    let bs = spelled (plan .bounds) 4 (S .bounds) in
+    let hs = spelled (halves (plan .counts)) 10 (omega (arith, halves-length (plan .counts), S .counts)) in
+    sym (ap₂ undone bs hs)
+    ∙ ap₂ (λ (b h : List ℕ). of 2 b (words h)) bs hs
+    ∙ ap (of 2 (plan .bounds)) (words-halves (plan .counts))
+    ∙ ap (λ (n : ℕ). of n (plan .bounds) (plan .counts)) (sym (chip-number (plan .chip) F75373s e))
+decode-encode Nct80 plan rest S e = λ i. record { chip = sym (chip-number (plan .chip) Nct80 e) i; table = plan .table; temperatures = zeros 4; critical = 0; duties = zeros 4; bounds = zeros 4; counts = zeros 5 }
+
+-- what comes back of a plan is judged as the plan is
+pub own-judged : (chip : Chip) (plan : Plan) → chipOf (plan .chip) ≡ Known chip → first (planChecks (ownOf chip plan)) ≡ first (planChecks plan)
+own-judged Nct7802y plan e = rw e
+own-judged F75373s plan e = rw e
+own-judged Nct80 plan e = rw e
+
+-- a whole body is the body of the plan in it
+pub encode-decode : (chip : Chip) (table : ℕ) (rest : List ℕ) → ((k : ℕ) → getD rest k 0 < 256) → bodyLength chip ≤ length rest
+    → body (planned chip (decoded chip table rest)) ≡ take (bodyLength chip) rest
+encode-decode Nct7802y table rest bytes h = in-a-row rest 0 9 h
+encode-decode F75373s table rest bytes h =
+    ap (λ (l : List ℕ). bytesAt rest (from 0 4) ++ l)
+    (halves-words (bytesAt rest (from 4 10)) (bytes 5, (bytes 7, (bytes 9, (bytes 11, (bytes 13, tt))))))
+    ∙ in-a-row rest 0 14 h
+encode-decode Nct80 table rest bytes h = refl

@@ -1,0 +1,209 @@
+-- Round trips, about the contracts: what is written is read back, what was read is written back as the bytes used, and a plan has one encoding.
+-- Assumes nothing.
+use Prim.Native.Nat.{ℕ, suc, _+_, _≤_, _<_}
+use native.Mathlib.Omega.{arith}
+use mathlib.Core.Path.{_≡_, refl, sym, ap, _∙_}
+use mathlib.Core.Bool.{true, not, and-eq-true-iff}
+use mathlib.Core.List.{List, [], _∷_, _++_}
+use borrow.Author.Tests.{ltb-false, le-ltb, eqb-true, not-false}
+use lib.Dec.{eqb, ltb, lit<}
+use lib.ListN.{length, getD, take, drop, length-append, length-drop}
+use lib.Seq.{getD-drop, length-take-le}
+use Rattle.refusal.specs.Checks.{Check, first, told}
+use Rattle.refusal.proofs.Passed.{passed, first-passed, first-front, when-passed, told-passed}
+use Rattle.cards.specs.declared.Chip.{Chip}
+use Rattle.cards.specs.declared.Named.the-variants.{Known}
+use Rattle.cards.specs.Cards.{chipOf, whenKnown, unknown, noTable, hasTable}
+use Rattle.cards.proofs.Numbers.{chip-number, chip-known}
+use Rattle.plans.specs.declared.Plan.{Plan}
+use Rattle.plans.specs.Plans.{planned, decoded, temperaturesOut, speedsOut, planChecks}
+use Rattle.plans.proofs.Laws.{accepted, accepted-known}
+use Rattle.records.specs.declared.Used.{Used}
+use Rattle.records.specs.declared.Used.the-variants as used
+use Rattle.records.specs.declared.Found.{Found}
+use Rattle.records.specs.Records.{body, bodyLength, recordLength, recordOf, encoded, chipIn, tableIn, bodyIn, noPlan, planIn, headerCutShort, wrongMark, bodyCutShort, recordChecks, roomChecks, writeChecks, bodyChecks, tellsUsed, ownOf, own, Sized, Reads, Writes}
+use Rattle.records.proofs.Chips.{decoded-chip, decoded-table}
+use Rattle.records.proofs.Answers.{body-judged}
+use Rattle.records.proofs.Encoding.{body-of-plan, decode-encode, own-judged, encode-decode}
+use Rattle.records.proofs.Unique.{tellsUsed-injective}
+
+-- a record that is accepted
+pub record Whole (bytes : List ℕ) (chip : Chip) : Type 0 where
+  pub long : 4 ≤ length bytes
+  pub first-mark : getD bytes 0 0 ≡ 0x43
+  pub second-mark : getD bytes 1 0 ≡ 0x50
+  pub named : chipOf (chipIn bytes) ≡ Known chip
+  pub has : hasTable chip (tableIn bytes) ≡ true
+  pub body-long : bodyLength chip ≤ length (bodyIn bytes)
+  pub accepted : first (planChecks (decoded chip (tableIn bytes) (bodyIn bytes))) ≡ 0
+
+pub record Some-chip (bytes : List ℕ) : Type 0 where
+  pub chip : Chip
+  pub whole : Whole bytes chip
+
+pub whole-record : (bytes : List ℕ) → first (recordChecks bytes) ≡ 0 → Some-chip bytes
+whole-record bytes h =
+    let c7 : List Check = (speedsOut (planIn bytes), 7) ∷ [] in
+    let c6 : List Check = (temperaturesOut (planIn bytes), 6) ∷ c7 in
+    let c5 : List Check = (bodyCutShort bytes, 5) ∷ c6 in
+    let c4 : List Check = (noTable (chipIn bytes) (tableIn bytes), 4) ∷ c5 in
+    let c3 : List Check = (unknown (chipIn bytes), 3) ∷ c4 in
+    let c2 : List Check = (wrongMark bytes, 2) ∷ c3 in
+    let one = passed (headerCutShort bytes) 1 c2 (lit< tt) h in
+    let two = passed (wrongMark bytes) 2 c3 (lit< tt) (one .1) in
+    let three = passed (unknown (chipIn bytes)) 3 c4 (lit< tt) (two .1) in
+    let mark = and-eq-true-iff (eqb (getD bytes 0 0) 0x43) (eqb (getD bytes 1 0) 0x50) .0 (not-false _ (two .0)) in
+    let known = chip-known (chipIn bytes) (three .0) in
+    let chip = known .chip in
+    let rest : first (bodyChecks chip (tableIn bytes) (bodyIn bytes)) ≡ 0 = rw (known .named) at (three .1) in
+    let b7 : List Check = (speedsOut (decoded chip (tableIn bytes) (bodyIn bytes)), 7) ∷ [] in
+    let b6 : List Check = (temperaturesOut (decoded chip (tableIn bytes) (bodyIn bytes)), 6) ∷ b7 in
+    let b5 : List Check = (ltb (length (bodyIn bytes)) (bodyLength chip), 5) ∷ b6 in
+    let four = passed (not (hasTable chip (tableIn bytes))) 4 b5 (lit< tt) rest in
+    let five = passed (ltb (length (bodyIn bytes)) (bodyLength chip)) 5 b6 (lit< tt) (four .1) in
+    let has : hasTable chip (tableIn bytes) ≡ true = not-false _ (four .0) in
+    let body-long : bodyLength chip ≤ length (bodyIn bytes) = ltb-false (length (bodyIn bytes)) (bodyLength chip) (five .0) in
+    record {
+      chip = chip;
+      whole = record {
+        long = ltb-false (length bytes) 4 (one .0);
+        first-mark = eqb-true (getD bytes 0 0) 0x43 (mark .0);
+        second-mark = eqb-true (getD bytes 1 0) 0x50 (mark .1);
+        named = known .named;
+        has = has;
+        body-long = body-long;
+        accepted = body-judged chip (tableIn bytes) (bodyIn bytes) has body-long ∙ rest;
+      };
+    }
+
+-- what an answer with bytes says of the call
+told-bytes : (checks : List Check) (value n : ℕ) (r : Used) → r ≡ used.Bytes n → tellsUsed r ≡ told checks value
+    → (first checks ≡ 0) × (n ≡ value)
+told-bytes checks value n r e t =
+    let both : (0, n) ≡ told checks value = ap tellsUsed (sym e) ∙ t in
+    let none : first checks ≡ 0 = sym (ap (λ (p : ℕ × ℕ). p .0) both) in
+    (none, ap (λ (p : ℕ × ℕ). p .1) both ∙ sym (when-passed value 0 none))
+
+header-split : (bytes : List ℕ) (m : ℕ) → 4 ≤ length bytes
+    → getD bytes 0 0 ∷ (getD bytes 1 0 ∷ (getD bytes 2 0 ∷ (getD bytes 3 0 ∷ take m (drop 4 bytes)))) ≡ take (4 + m) bytes
+header-split [] m h = absurd (omega arith)
+header-split (a ∷ []) m h = absurd (omega arith)
+header-split (a ∷ (b ∷ [])) m h = absurd (omega arith)
+header-split (a ∷ (b ∷ (c ∷ []))) m h = absurd (omega arith)
+header-split (a ∷ (b ∷ (c ∷ (d ∷ l)))) m h =
+    let e : suc (suc (suc (suc m))) ≡ 4 + m = omega arith in
+    ap (λ (k : ℕ). take k (a ∷ (b ∷ (c ∷ (d ∷ l))))) e
+
+-- the record of the plan in an accepted record is the front of its bytes
+whole-encoded : (bytes : List ℕ) (chip : Chip) → Whole bytes chip → ((k : ℕ) → getD bytes k 0 < 256)
+    → encoded (decoded chip (tableIn bytes) (bodyIn bytes)) ≡ take (recordLength chip) bytes
+whole-encoded bytes chip W small =
+    let D = decoded chip (tableIn bytes) (bodyIn bytes) in
+    let number = chip-number (D .chip) chip (decoded-chip chip (tableIn bytes) (bodyIn bytes)) ∙ sym (chip-number (chipIn bytes) chip (W .named)) in
+    let bytes-small : (k : ℕ) → getD (bodyIn bytes) k 0 < 256 = λ k. rw (getD-drop 4 bytes k 0) (small (4 + k)) in
+    let whole : encoded D ≡ recordOf chip D = rw (decoded-chip chip (tableIn bytes) (bodyIn bytes)) in
+    whole
+    ∙ (λ i. sym (W .first-mark) i
+    ∷ (sym (W .second-mark) i
+    ∷ (number i
+    ∷ (decoded-table chip (tableIn bytes) (bodyIn bytes) i
+    ∷ encode-decode chip (tableIn bytes) (bodyIn bytes) bytes-small (W .body-long) i))))
+    ∙ header-split bytes (bodyLength chip) (W .long)
+
+-- what an accepted read says: whose record it is, its length, and the record of the plan
+pub record Accepts (bytes : List ℕ) (n : ℕ) (plan : Plan) : Type 0 where
+  pub within : n ≤ length bytes
+  pub judged : first (planChecks plan) ≡ 0
+  pub record-of : encoded plan ≡ take n bytes
+
+whole-accepts : (bytes : List ℕ) (n : ℕ) (plan : Plan) (chip : Chip) → Whole bytes chip → ((k : ℕ) → getD bytes k 0 < 256)
+    → n ≡ whenKnown (chipOf (chipIn bytes)) recordLength 0 → plan ≡ planIn bytes → Accepts bytes n plan
+whole-accepts bytes n plan chip W small length-told plan-told =
+    let length-is : n ≡ recordLength chip = rw (W .named) at length-told in
+    let plan-is : plan ≡ decoded chip (tableIn bytes) (bodyIn bytes) = rw (W .named) at plan-told in
+    record {
+      within = omega (arith, length-is, W .long, W .body-long, length-drop 4 bytes);
+      judged = ap (λ (p : Plan). first (planChecks p)) plan-is ∙ W .accepted;
+      record-of = ap encoded plan-is ∙ whole-encoded bytes chip W small ∙ ap (λ (k : ℕ). take k bytes) (sym length-is);
+    }
+
+pub read-accepts : (bytes : List ℕ) (n : ℕ) (q : Found) → ((k : ℕ) → getD bytes k 0 < 256) → Reads bytes q → q .answer ≡ used.Bytes n
+    → Accepts bytes n (q .plan)
+read-accepts bytes n q small R e =
+    let t = told-bytes (recordChecks bytes) (whenKnown (chipOf (chipIn bytes)) recordLength 0) n (q .answer) e (R .answer) in
+    let some = whole-record bytes (t .0) in
+    whole-accepts bytes n (q .plan) (some .chip) (some .whole) small (t .1) (R .plan ∙ sym (when-passed (planIn bytes) noPlan (t .0)))
+
+-- "a plan has one encoding": bytes that are read as the same plan are the same, as far as they are used
+pub one-encoding : (bytes other : List ℕ) (n m : ℕ) (q s : Found)
+    → ((k : ℕ) → getD bytes k 0 < 256) → ((k : ℕ) → getD other k 0 < 256)
+    → Reads bytes q → Reads other s → q .answer ≡ used.Bytes n → s .answer ≡ used.Bytes m → q .plan ≡ s .plan
+    → (n ≡ m) × (take n bytes ≡ take m other)
+one-encoding bytes other n m q s small small′ R R′ e e′ same =
+    let A = read-accepts bytes n q small R e in
+    let B = read-accepts other m s small′ R′ e′ in
+    let fronts = sym (A .record-of) ∙ ap encoded same ∙ B .record-of in
+    (sym (length-take-le n bytes (A .within)) ∙ ap length fronts ∙ length-take-le m other (B .within), fronts)
+
+-- what was read is written back as exactly the bytes used
+pub read-written : (bytes : List ℕ) (n : ℕ) (q : Found) (old : List ℕ) (r : Used) (new : List ℕ)
+    → ((k : ℕ) → getD bytes k 0 < 256) → Reads bytes q → q .answer ≡ used.Bytes n → Writes (q .plan) old r new → n ≤ length old
+    → (r ≡ used.Bytes n) × (new ≡ take n bytes ++ drop n old)
+read-written bytes n q old r new small R e W room =
+    let A = read-accepts bytes n q small R e in
+    let size : length (encoded (q .plan)) ≡ n = ap length (A .record-of) ∙ length-take-le n bytes (A .within) in
+    let fits : first (roomChecks (encoded (q .plan)) old) ≡ 0 = rw (le-ltb (length old) (length (encoded (q .plan))) (omega arith)) in
+    let none = first-passed (planChecks (q .plan)) (roomChecks (encoded (q .plan)) old) refl (A .judged) ∙ fits in (
+      tellsUsed-injective r (used.Bytes n)
+          (W .answer ∙ sym (told-passed (writeChecks (q .plan) old) (length (encoded (q .plan))) none) ∙ ap (λ (k : ℕ). (0, k)) size),
+      W .bytes
+          ∙ sym (when-passed (encoded (q .plan) ++ drop (length (encoded (q .plan))) old) old none)
+          ∙ (λ i. A .record-of i ++ drop (size i) old),
+    )
+
+-- a plan's record, with whatever bytes stand behind it
+record-read : (chip : Chip) (plan : Plan) (rest : List ℕ) (q : Found) → Sized plan → chipOf (plan .chip) ≡ Known chip
+    → first (planChecks plan) ≡ 0 → Reads (recordOf chip plan ++ rest) q
+    → (q .answer ≡ used.Bytes (length (recordOf chip plan))) × (q .plan ≡ ownOf chip plan)
+record-read chip plan rest q S e accepts R =
+    let bytes = recordOf chip plan ++ rest in
+    let behind = body (planned chip plan) ++ rest in
+    let size = body-of-plan chip plan S in
+    let whole : bodyLength chip ≤ length behind = omega (arith, size, length-append (body (planned chip plan)) rest) in
+    let back = decode-encode chip plan rest S e in
+    let checks : first (recordChecks bytes) ≡ first (bodyChecks chip (plan .table) behind) = rw (le-ltb (length bytes) 4 (omega arith), e) in
+    let none : first (recordChecks bytes) ≡ 0 =
+    checks
+    ∙ sym (body-judged chip (plan .table) behind (accepted chip plan e accepts .has) whole)
+    ∙ ap (λ (p : Plan). first (planChecks p)) back
+    ∙ own-judged chip plan e
+    ∙ accepts in
+    let used-bytes : whenKnown (chipOf (plan .chip)) recordLength 0 ≡ length (recordOf chip plan) = rw e (omega (arith, size)) in
+    let plan-in : planIn bytes ≡ ownOf chip plan = rw e back in (
+      tellsUsed-injective (q .answer) (used.Bytes (length (recordOf chip plan)))
+          (R .answer ∙ sym (told-passed (recordChecks bytes) (whenKnown (chipOf (plan .chip)) recordLength 0) none) ∙ ap (λ (k : ℕ). (0, k)) used-bytes),
+      R .plan ∙ sym (when-passed (planIn bytes) noPlan none) ∙ plan-in,
+    )
+
+named-read : (chip : Chip) (plan : Plan) (rest : List ℕ) (q : Found) → Sized plan → chipOf (plan .chip) ≡ Known chip
+    → first (planChecks plan) ≡ 0 → Reads (encoded plan ++ rest) q → (q .answer ≡ used.Bytes (length (encoded plan))) × (q .plan ≡ own plan)
+named-read chip plan rest q S e accepts = rw e (record-read chip plan rest q S e accepts)
+
+-- what is written is read back: all of it, and the plan with the other chip's values zero
+pub written-read : (plan : Plan) (old : List ℕ) (n : ℕ) (r : Used) (new : List ℕ) (q : Found) → Sized plan
+    → Writes plan old r new → r ≡ used.Bytes n → Reads new q → (q .answer ≡ used.Bytes n) × (q .plan ≡ own plan)
+written-read plan old n r new q S W e R =
+    let t = told-bytes (writeChecks plan old) (length (encoded plan)) n r e (W .answer) in
+    let accepts = first-front (planChecks plan) (roomChecks (encoded plan) old) refl (t .0) in
+    let known = chip-known (plan .chip) (accepted-known plan accepts) in
+    let wrote : new ≡ encoded plan ++ drop (length (encoded plan)) old = W .bytes ∙ sym (when-passed _ old (t .0)) in
+    let back = named-read (known .chip) plan (drop (length (encoded plan)) old) q S (known .named) accepts (rw wrote at R) in
+    (back .0 ∙ ap used.Bytes (sym (t .1)), back .1)
+
+-- "only such plans come back equal from their record": those whose other chip's values are zero
+pub comes-back : (plan : Plan) (old : List ℕ) (n : ℕ) (r : Used) (new : List ℕ) (q : Found) → Sized plan
+    → Writes plan old r new → r ≡ used.Bytes n → Reads new q
+    → (own plan ≡ plan → q .plan ≡ plan) × (q .plan ≡ plan → own plan ≡ plan)
+comes-back plan old n r new q S W e R =
+    let back = written-read plan old n r new q S W e R .1 in
+    (λ zero. back ∙ zero, λ equal. sym back ∙ equal)
