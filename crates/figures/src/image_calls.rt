@@ -7,7 +7,7 @@ use images::Outcome;
 
 const FILL: u8 = 0x5A;
 
-fn chip(k: u8) -> u8 {
+pub fn chip(k: u8) -> u8 {
     match k {
         0 => 0,
         1 => 1,
@@ -18,7 +18,7 @@ fn chip(k: u8) -> u8 {
     }
 }
 
-fn length(k: u8) -> usize {
+pub fn length(k: u8) -> usize {
     match k {
         0 => 0,
         1 => 255,
@@ -27,7 +27,7 @@ fn length(k: u8) -> usize {
     }
 }
 
-fn is_filled(buffer: &[u8]) -> bool {
+pub fn is_filled(buffer: &[u8]) -> bool {
     for k in 0..buffer.len() {
         if buffer[k] != FILL {
             return false;

@@ -33,6 +33,21 @@ pub fn byte(b: u8) {
     text(&digits);
 }
 
+// A space before every second byte.
+fn gap(k: usize) {
+    if k % 2 == 0 {
+        text(b" ");
+    }
+}
+
+// Bytes in hexadecimal, two by two.
+pub fn bytes(bytes: &[u8]) {
+    for k in 0..bytes.len() {
+        gap(k);
+        byte(bytes[k]);
+    }
+}
+
 // A word in four upper-case hexadecimal digits.
 pub fn word(w: u16) {
     byte(numbers::high(w));

@@ -1,0 +1,189 @@
+// What curves ask, of plans and of images: `.. at T is S`. T is signed for chip 1; S is a duty in decimal, for other chips a count in hexadecimal.
+use crate::image_calls;
+use crate::print;
+use crate::samples;
+use plans::Asked;
+use plans::Plan;
+
+pub fn degrees(chip: u8, t: u8) {
+    if chip == 1 {
+        if t >= 128 {
+            print::text(b"-");
+            print::decimal(256 - t as u64);
+            return;
+        }
+    }
+    print::decimal(t as u64);
+}
+
+fn speed(chip: u8, speed: u16) {
+    if chip == 1 {
+        print::decimal(speed as u64);
+    } else {
+        print::word(speed);
+    }
+}
+
+pub fn answer(chip: u8, asked: Asked) {
+    match asked {
+        Asked::Refused(r) => print::refused(r),
+        Asked::Speed(s) => {
+            print::text(b" ");
+            speed(chip, s);
+        }
+    }
+}
+
+fn end(chip: u8, t: u8, asked: Asked) {
+    print::text(b" at ");
+    degrees(chip, t);
+    print::text(b" is");
+    answer(chip, asked);
+    print::text(b"\n");
+}
+
+fn paper_at(t: u8) {
+    print::text(b"plan duty");
+    end(1, t, plans::asked_of_plan(samples::paper(), t));
+}
+
+fn steps_at(t: u8) {
+    print::text(b"steps count");
+    end(2, t, plans::asked_of_plan(samples::stepped(), t));
+}
+
+fn plan_at(plan: Plan, t: u8) {
+    print::text(b"asked");
+    samples::show(plan);
+    end(plan.chip, t, plans::asked_of_plan(plan, t));
+}
+
+// The rules paper's figures.
+fn figures() {
+    paper_at(30);
+    paper_at(33);
+    paper_at(45);
+    paper_at(53);
+    paper_at(58);
+    paper_at(60);
+    plan_at(
+        samples::slope(1, 1, [50, 40, 60, 70], 100, [11, 22, 33, 44]),
+        45,
+    );
+    plan_at(
+        samples::slope(1, 1, [0, 3, 60, 70], 100, [200, 100, 33, 44]),
+        1,
+    );
+    steps_at(61);
+    steps_at(60);
+    steps_at(51);
+}
+
+// The bytes of -128 to 127 in their order.
+fn in_order(k: u8) -> u8 {
+    if k < 128 { k + 128 } else { k - 128 }
+}
+
+fn whole_curve() {
+    for k in 0..=255u8 {
+        paper_at(in_order(k));
+    }
+}
+
+// Above, at and below a bound.
+fn beside(above: u8, bound: u8, below: u8) {
+    steps_at(above);
+    steps_at(bound);
+    steps_at(below);
+}
+
+fn all_steps() {
+    steps_at(255);
+    beside(61, 60, 59);
+    beside(51, 50, 49);
+    beside(41, 40, 39);
+    beside(31, 30, 29);
+    steps_at(0);
+}
+
+// A plan is asked in order or not: only its chip and its table are checked.
+fn unordered() {
+    for k in 0..14u8 {
+        plan_at(samples::refused(k), 45);
+    }
+}
+
+fn temperature(k: u8) -> u8 {
+    match k {
+        0 => 0x80,
+        1 => 0xFF,
+        2 => 0,
+        3 => 25,
+        4 => 26,
+        5 => 30,
+        6 => 31,
+        7 => 45,
+        8 => 51,
+        9 => 59,
+        10 => 60,
+        11 => 61,
+        _ => 0x7F,
+    }
+}
+
+fn image_at(chip: u8, table: u8, image: &[u8], t: u8) {
+    print::text(b"image chip ");
+    print::decimal(chip as u64);
+    print::text(b" table ");
+    print::decimal(table as u64);
+    print::text(b" length ");
+    print::decimal(image.len() as u64);
+    end(chip, t, plans::asked_of_image(chip, table, image, t));
+}
+
+fn power_on(chip: u8, table: u8) {
+    let mut image = [0u8; 256];
+    images::reset(chip, &mut image);
+    for k in 0..13u8 {
+        image_at(chip, table, &image, temperature(k));
+    }
+}
+
+// Of an image that is all 5Ah.
+fn part_at(chip: u8, table: u8, buffer: &[u8], length: usize) {
+    if length <= buffer.len() {
+        image_at(chip, table, &buffer[..length], 91);
+    }
+}
+
+fn lengths(chip: u8, table: u8) {
+    let buffer = [0x5Au8; 257];
+    for k in 0..4u8 {
+        part_at(chip, table, &buffer, image_calls::length(k));
+    }
+}
+
+fn tables(chip: u8) {
+    for table in 0..5u8 {
+        lengths(chip, table);
+    }
+}
+
+fn chips() {
+    for k in 0..6u8 {
+        tables(image_calls::chip(k));
+    }
+}
+
+pub fn print_all() {
+    figures();
+    whole_curve();
+    all_steps();
+    unordered();
+    power_on(1, 1);
+    power_on(1, 2);
+    power_on(1, 3);
+    power_on(2, 1);
+    power_on(2, 2);
+    chips();
+}

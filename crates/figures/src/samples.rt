@@ -1,0 +1,100 @@
+// Plans that lines are about, and how a line shows one: ` chip C table T`, then in hexadecimal T1 to T4, critical, FL1 to FL4, B1 to B4, C1 to C5.
+use crate::print;
+use plans::Plan;
+
+// A plan with chip 1's values; another chip number may stand on it.
+pub fn slope(chip: u8, table: u8, temperatures: [u8; 4], critical: u8, duties: [u8; 4]) -> Plan {
+    Plan {
+        chip,
+        table,
+        temperatures,
+        critical,
+        duties,
+        bounds: [0; 4],
+        counts: [0; 5],
+    }
+}
+
+// A plan of chip 2.
+pub fn steps(table: u8, bounds: [u8; 4], counts: [u16; 5]) -> Plan {
+    Plan {
+        chip: 2,
+        table,
+        temperatures: [0; 4],
+        critical: 0,
+        duties: [0; 4],
+        bounds,
+        counts,
+    }
+}
+
+// The rules paper's plan.
+pub fn paper() -> Plan {
+    slope(1, 3, [30, 40, 50, 55], 60, [140, 170, 200, 230])
+}
+
+// A plan of chip 2 whose bytes are all different.
+pub fn stepped() -> Plan {
+    steps(
+        1,
+        [60, 50, 40, 30],
+        [0x0102, 0x0304, 0x0506, 0x0708, 0x090A],
+    )
+}
+
+// The paper's values under a chip and a table.
+fn under(chip: u8, table: u8) -> Plan {
+    slope(chip, table, [30, 40, 50, 55], 60, [140, 170, 200, 230])
+}
+
+// Plans that a check refuses, and several that two or more would: then the first is the answer.
+pub fn refused(k: u8) -> Plan {
+    match k {
+        0 => under(0, 3),
+        1 => slope(4, 9, [40, 30, 50, 55], 60, [140, 170, 200, 199]),
+        2 => under(1, 0),
+        3 => under(1, 4),
+        4 => slope(1, 4, [40, 30, 50, 55], 60, [140, 170, 200, 199]),
+        5 => steps(3, [60, 50, 40, 30], [0, 1, 2, 3, 4]),
+        6 => under(3, 1),
+        7 => slope(1, 1, [30, 40, 40, 55], 60, [140, 170, 200, 230]),
+        8 => slope(1, 2, [30, 40, 50, 55], 54, [140, 170, 200, 230]),
+        9 => slope(1, 3, [30, 0x80, 50, 55], 60, [140, 139, 200, 230]),
+        10 => steps(1, [60, 50, 50, 30], [0, 1, 2, 3, 4]),
+        11 => steps(2, [60, 50, 40, 41], [0, 0x0200, 0x01FF, 3, 4]),
+        12 => slope(1, 3, [30, 40, 50, 55], 60, [140, 170, 200, 199]),
+        _ => steps(2, [60, 50, 40, 30], [0, 0x0200, 0x01FF, 0x0300, 0xFFFF]),
+    }
+}
+
+pub fn head(plan: Plan) {
+    print::text(b" chip ");
+    print::decimal(plan.chip as u64);
+    print::text(b" table ");
+    print::decimal(plan.table as u64);
+}
+
+fn count(count: u16) {
+    print::text(b" ");
+    print::word(count);
+}
+
+fn all_counts(counts: [u16; 5]) {
+    for k in 0..5 {
+        count(counts[k]);
+    }
+}
+
+pub fn show(plan: Plan) {
+    head(plan);
+    let temperatures = plan.temperatures;
+    print::bytes(&temperatures);
+    print::text(b" ");
+    print::byte(plan.critical);
+    let duties = plan.duties;
+    print::bytes(&duties);
+    let bounds = plan.bounds;
+    print::bytes(&bounds);
+    let counts = plan.counts;
+    all_counts(counts);
+}

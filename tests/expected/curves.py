@@ -1,0 +1,60 @@
+"""What curves ask at a temperature."""
+from cards import reset
+from images import CHIPS, LENGTHS
+from plans import PAPER, REFUSED, STEPPED, Plan, asked, asked_of_image, show
+
+
+def paper_at(t):
+    print("plan duty at %d is %s" % (t, asked(PAPER, t)))
+
+
+def steps_at(t):
+    print("steps count at %d is %s" % (t, asked(STEPPED, t)))
+
+
+def plan_at(plan, t):
+    print("asked %s at %d is %s" % (show(plan), t, asked(plan, t)))
+
+
+def figures():
+    """The starred figures, which the definitions must have as the paper has them."""
+    for t, duty in ((30, 140), (33, 149), (45, 185), (53, 218), (58, 230), (60, 255)):
+        assert asked(PAPER, t) == "%d" % duty
+        paper_at(t)
+    unordered = Plan(1, 1, (50, 40, 60, 70, 100, 11, 22, 33, 44))
+    assert asked(unordered, 45) == "11"
+    plan_at(unordered, 45)
+    falling = Plan(1, 1, (0, 3, 60, 70, 100, 200, 100, 33, 44))
+    assert asked(falling, 1) == "166"
+    plan_at(falling, 1)
+    for t, k in ((61, 1), (60, 2), (51, 2)):
+        assert asked(STEPPED, t) == "%04X" % STEPPED.values[3 + k]
+        steps_at(t)
+
+
+def image_at(chip, table, image, t):
+    print("image chip %d table %d length %d at %d is %s" % (chip, table, len(image), t, asked_of_image(chip, table, image, t)))
+
+
+# T is signed for chip 1 and unsigned for chip 2.
+TEMPERATURES = {
+    1: (-128, -1, 0, 25, 26, 30, 31, 45, 51, 59, 60, 61, 127),
+    2: (128, 255, 0, 25, 26, 30, 31, 45, 51, 59, 60, 61, 127),
+}
+
+
+def curves():
+    figures()
+    for t in range(-128, 128):
+        paper_at(t)
+    for t in (255, 61, 60, 59, 51, 50, 49, 41, 40, 39, 31, 30, 29, 0):
+        steps_at(t)
+    for _, plan in REFUSED:
+        plan_at(plan, 45)
+    for chip, table in ((1, 1), (1, 2), (1, 3), (2, 1), (2, 2)):
+        for t in TEMPERATURES[chip]:
+            image_at(chip, table, reset(chip), t)
+    for chip in CHIPS:
+        for table in range(5):
+            for length in LENGTHS:
+                image_at(chip, table, [0x5A] * length, 91)

@@ -1,0 +1,111 @@
+"""Plan records, read and written."""
+from cards import NAMES
+from plans import PAPER, REFUSED, STEPPED, TABLES, Plan, body, decoded, pairs, refusal, show
+
+MARK = [0x43, 0x50]
+LENGTHS = {1: 13, 2: 18}
+NOTHING = Plan(0, 0, (0,) * 9)
+
+
+def record(plan):
+    return MARK + [plan.chip, plan.table] + body(plan)
+
+
+def found(bytes):
+    """The answer and the plan: the checks 1 to 7 in their order."""
+    if len(bytes) < 4:
+        return 1, NOTHING
+    if bytes[:2] != MARK:
+        return 2, NOTHING
+    chip, table = bytes[2:4]
+    if chip not in NAMES:
+        return 3, NOTHING
+    if not 1 <= table <= len(TABLES[chip]):
+        return 4, NOTHING
+    if len(bytes) < LENGTHS[chip]:
+        return 5, NOTHING
+    plan = Plan(chip, table, decoded(chip, bytes[4:]))
+    if refusal(plan):
+        return refusal(plan), NOTHING
+    return None, plan
+
+
+def read(number, bytes):
+    """`number` is the refusal that the bytes are made for, None where they are good."""
+    refused, plan = found(bytes)
+    assert refused == number
+    answer = "refused %d" % refused if refused else "used %d" % LENGTHS[plan.chip]
+    print("read%s %s %s" % (pairs(bytes), answer, show(plan)))
+    return plan
+
+
+def write(plan, room):
+    """The checks 3, 4, 6, 7 and then 9, on a buffer of 20 bytes of which the call gets the first."""
+    buffer = [0x5A] * 20
+    refused = refusal(plan) or (9 if room < LENGTHS[plan.chip] else None)
+    if not refused:
+        buffer[: LENGTHS[plan.chip]] = record(plan)
+    answer = "refused %d" % refused if refused else "used %d" % LENGTHS[plan.chip]
+    print("write %s room %d %s out%s" % (show(plan), room, answer, pairs(buffer)))
+
+
+def bytes_of(text):
+    return list(bytes.fromhex(text))
+
+
+BODY = "1E2832373C8CAAC8E6"
+STEPS = "3C32281E0102030405060708090A"
+
+GOOD = (
+    ("43500103" + BODY, 13),
+    ("4350010180FF007F7F0000FFFF" + "0102", 20),
+    ("43500201" + STEPS, 18),
+    ("43500202FF807F00000000000001FFFFFFFF" + "4350", 20),
+)
+
+# Each with the number of its refusal.
+BAD = (
+    (1, ""),
+    (1, "435001"),
+    (1, "58595A"),
+    (2, "44500103" + BODY),
+    (2, "43510103" + BODY),
+    (2, "50430403" + BODY),
+    (3, "43500003" + BODY),
+    (3, "43500401" + BODY),
+    (3, "4350FF09"),
+    (4, "43500100" + BODY),
+    (4, "43500104" + BODY),
+    (4, "43500203" + STEPS),
+    (4, "43500301" + BODY),
+    (4, "43500104" + BODY[:-2]),
+    (4, "43500301"),
+    (5, "43500103"),
+    (5, "43500103" + BODY[:-2]),
+    (5, "43500201" + STEPS[:-2]),
+    (5, "43500103" + "281E32373C8CAAC8"),
+    (6, "43500103" + "1E2828373C8CAAC8E6"),
+    (6, "43500103" + "1E283237368CAAC8E6"),
+    (6, "43500103" + "1E2832803C8CAAC8E6"),
+    (6, "43500201" + "3C32321E0102030405060708090A"),
+    (6, "43500103" + "281E32373C8CAAC8C7"),
+    (7, "43500103" + "1E2832373C8CAAC8C7"),
+    (7, "43500201" + "3C32281E0102030402FF0708090A"),
+)
+
+
+def records():
+    for text, room in GOOD:
+        write(read(None, bytes_of(text)), room)
+    for number, text in BAD:
+        read(number, bytes_of(text))
+    for _, plan in REFUSED:
+        write(plan, 0)
+        write(plan, 20)
+    for room in (12, 13, 14):
+        write(PAPER, room)
+    for room in (17, 18, 20):
+        write(STEPPED, room)
+    slope, steps = (1, 2, 3, 4, 4, 5, 6, 7, 7), (9, 8, 7, 6, 1, 2, 3, 3, 0xFFFF)
+    write(Plan(1, 2, slope, steps), 20)
+    write(Plan(2, 2, steps, slope), 20)
