@@ -16,6 +16,7 @@ use Rattle.plans.specs.declared.Plan.{Plan}
 use Rattle.plans.specs.Curves.{halves}
 use Rattle.plans.specs.Orders.{Each, fulls, MoreDuty, LessCount}
 use Rattle.plans.specs.Plans.{Curve, planned}
+use Rattle.records.specs.Records.{Sized as Lengths}
 use Rattle.scripts.specs.Scripts.{Pair, writes, fullOf, script, scriptOf}
 use Rattle.scripts.specs.NeverSlower.{All, Within, Typed}
 use Rattle.scripts.proofs.Memory.{Memory}
@@ -61,17 +62,6 @@ unfolding halves
 halves-length [] = refl
 halves-length (c ∷ cs) = omega (arith, halves-length cs)
 
--- how long the arrays of a plan are
-pub record Lengths (plan : Plan) : Type 0 where
-  pub temperatures : length (plan .temperatures) ≡ 4
-  pub duties : length (plan .duties) ≡ 4
-  pub bounds : length (plan .bounds) ≡ 4
-  pub counts : length (plan .counts) ≡ 5
-
-lengths : {plan : Plan} → Typed plan → Lengths plan
-lengths typed =
-    record { temperatures = typed .temperatures .0; duties = typed .duties .0; bounds = typed .bounds .0; counts = typed .counts .0 }
-
 -- a chip's plan fills each of its tables
 pub settings-fill : (chip : Chip) (plan : Plan) → Lengths plan → So (hasTable chip (plan .table))
     → length (tableOf chip (plan .table) .settings) ≡ length (planned chip plan .settings)
@@ -97,13 +87,13 @@ none-faster F75373s l h = count-full l
 none-faster Nct80 l h = count-full l
 
 settings-within : (chip : Chip) (plan : Plan) → Typed plan → Within 8 (planned chip plan .settings)
-settings-within Nct7802y plan typed = within-append (plan .temperatures) (plan .critical ∷ []) (typed .temperatures .1) (typed .critical, tt)
-settings-within F75373s plan typed = typed .bounds .1
+settings-within Nct7802y plan typed = within-append (plan .temperatures) (plan .critical ∷ []) (typed .temperatures) (typed .critical, tt)
+settings-within F75373s plan typed = typed .bounds
 settings-within Nct80 plan typed = tt
 
 speeds-within : (chip : Chip) (plan : Plan) → Typed plan → Within 8 (planned chip plan .speeds)
-speeds-within Nct7802y plan typed = typed .duties .1
-speeds-within F75373s plan typed = within-halves (plan .counts) (typed .counts .1)
+speeds-within Nct7802y plan typed = typed .duties
+speeds-within F75373s plan typed = within-halves (plan .counts) (typed .counts)
 speeds-within Nct80 plan typed = tt
 
 full-byte : (chip : Chip) → fullOf chip < 2 ^ 8
@@ -115,8 +105,8 @@ module _ (chip : Chip) (plan : Plan) (typed : Typed plan) (has : So (hasTable ch
   pub plan-fits : (old : List ℕ) → Within 8 old → Fits (ruleOf chip) (tableOf chip (plan .table)) (bytesOf old) (planned chip plan)
   plan-fits old bytes =
       record {
-        settings = settings-fill chip plan (lengths typed) has;
-        speeds = speeds-fill chip plan (lengths typed) has;
+        settings = settings-fill chip plan (typed .sized) has;
+        speeds = speeds-fill chip plan (typed .sized) has;
         first-full = none-faster chip (map (bytesOf old) (tableOf chip (plan .table) .speeds)) (bytes-at old (tableOf chip (plan .table) .speeds) bytes);
         plan-full = none-faster chip (planned chip plan .speeds) (speeds-within chip plan typed);
       }

@@ -22,14 +22,14 @@ use Rattle.cards.specs.Cards.{chipOf, whenKnown, hasTable, tableOf, tableAt, ba
 use Rattle.cards.proofs.Tables.{table-number, table-at-base}
 use Rattle.plans.specs.declared.Plan.{Plan}
 use Rattle.plans.specs.Plans.{Curve, planned, planChecks}
-use Rattle.records.specs.Records.{header, body, recordOf, encoded, tellsUsed, roomChecks, writeChecks, Writes}
+use Rattle.records.specs.Records.{Sized as Lengths, header, body, recordOf, encoded, tellsUsed, roomChecks, writeChecks, Writes}
 use Rattle.records.specs.declared.Used.{Used}
 use Rattle.scripts.specs.declared.making.Script.{Script}
 use Rattle.scripts.specs.declared.making.Pair as code
 use Rattle.scripts.specs.declared.making.Ready.{Ready}
 use Rattle.scripts.specs.Scripts.{Pair, fullOf, script, scriptOf, scriptFor}
 use Rattle.scripts.specs.Making.{writesOf, pairAt, pairsOf, Sized, laidOut, scriptIn, Describes, tellsReady, Prepares}
-use Rattle.scripts.proofs.Fitting.{Lengths, settings-fill, speeds-fill, halves-length}
+use Rattle.scripts.proofs.Fitting.{settings-fill, speeds-fill, halves-length}
 use Rattle.scripts.proofs.Pairs.{nothing, rowTable, script-length, raised-at, body-at}
 
 -- a byte of the body, behind the header and before whatever follows the record

@@ -13,6 +13,7 @@ use Rattle.plans.specs.declared.Plan.{Plan}
 use Rattle.plans.specs.declared.Asked.{Asked}
 use Rattle.plans.specs.declared.Asked.the-variants.{Speed, Refused}
 use Rattle.plans.specs.Plans.{AsksImage, AsksPlan}
+use Rattle.records.specs.Records.{Sized}
 use Rattle.scripts.specs.Scripts.{scriptFor}
 
 -- "More duty is faster; a smaller count is faster": a is at least as fast as b
@@ -49,11 +50,12 @@ Within bits xs = All (λ x. x < 2 ^ bits) xs
 
 -- what its type says of every plan that code holds: the arrays' lengths and the numbers' ranges
 pub record Typed (plan : Plan) : Type 0 where
-  pub temperatures : (length (plan .temperatures) ≡ 4) × Within 8 (plan .temperatures)
+  pub sized : Sized plan
+  pub temperatures : Within 8 (plan .temperatures)
   pub critical : plan .critical < 2 ^ 8
-  pub duties : (length (plan .duties) ≡ 4) × Within 8 (plan .duties)
-  pub bounds : (length (plan .bounds) ≡ 4) × Within 8 (plan .bounds)
-  pub counts : (length (plan .counts) ≡ 5) × Within 16 (plan .counts)
+  pub duties : Within 8 (plan .duties)
+  pub bounds : Within 8 (plan .bounds)
+  pub counts : Within 16 (plan .counts)
 
 -- Demand 3, of a stop: `old` is the image before, `new` the image at the stop, `count` how many writes were asked for.
 pub record Demand3 (chip : Chip) (plan : Plan) (old : List ℕ) (count : ℕ) (new : List ℕ) : Type 0 where

@@ -1,9 +1,8 @@
 -- `making::prepare` meets its contract: the record that is written is the one that the script is laid out from.
 -- Assumes nothing.
 use Rattle.scripts.proofs.Prepared.{prepares}
-use Rattle.scripts.proofs.Fitting.{Lengths}
 use Rattle.scripts.specs.declared.making.Ready.the-variants as ready
-use Rattle.records.specs.Records.{tellsUsed}
+use Rattle.records.specs.Records.{Sized as Lengths, tellsUsed}
 use Rattle.records.specs.declared.Used.{Used}
 use lib.ListN.{length-map}
 use mathlib.Core.Path.{refl, sym, ap, _∙_}
