@@ -1,15 +1,15 @@
 -- What a byte write does to an image, for whoever plays several: its length and every other byte stay, and a row with mask FFh takes the byte.
 -- Assumes nothing.
-use Prim.Native.Nat.{ℕ, zero, suc, _+_, _-_, _*_, _/_, _%_, _^_, _<_}
+use Prim.Native.Nat.{ℕ, zero, suc, _-_, _/_, _%_, _^_, _<_}
 use native.Mathlib.Nat.{pow-suc}
 use native.Mathlib.Omega.{arith}
-use mathlib.Core.Path.{_≡_, refl, sym, ap, _∙_}
+use mathlib.Core.Path.{_≡_, sym, _∙_}
 use mathlib.Core.List.{List}
 use lib.Arith.{lt-one}
-use lib.ListN.{length, getD, set, length-set}
+use lib.ListN.{length, getD, length-set}
 use lib.Seq.{getD-set-same, getD-set-other}
 use Rattle.cards.specs.declared.Row.{Row}
-use Rattle.images.specs.Bytes.{storedBit, storedBits, stored, storedAt}
+use Rattle.images.specs.Bytes.{storedBits, stored, storedAt}
 
 -- the image keeps its length
 pub storedAt-length : (row : Row) (position byte : ℕ) (image : List ℕ) → length (storedAt row position byte image) ≡ length image

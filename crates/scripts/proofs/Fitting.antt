@@ -1,25 +1,23 @@
 -- A plan fills its chip's fan table with bytes, and no speed byte is faster than full: what the types of a plan and of an image say, as the theorem asks it.
 -- Assumes nothing.
-use Prim.Native.Nat.{ℕ, zero, suc, _+_, _/_, _%_, _≤_, _<_, _^_, zero-le}
-use native.Mathlib.Nat.{suc-ne-zero}
+use Prim.Native.Nat.{ℕ, zero, suc, _+_, _<_, _^_, zero-le}
 use native.Mathlib.Omega.{arith}
-use mathlib.Core.Path.{_≡_, refl, sym, ap, ap₂, subst, _∙_}
+use mathlib.Core.Path.{_≡_, refl, sym, ap, _∙_}
 use mathlib.Core.Bool.{So}
 use mathlib.Core.List.{List, [], _∷_, _++_, map}
-use lib.ListN.{length, getD, replicate, length-append, length-map}
+use lib.ListN.{length, length-append}
 use Rattle.cards.specs.declared.Chip.{Chip}
 use Rattle.cards.specs.declared.Chip.the-variants.{Nct7802y, F75373s, Nct80}
 use Rattle.cards.specs.Rows.{Table}
-use Rattle.cards.specs.Cards.{hasTable, tableOf, tableAt, baseOf}
+use Rattle.cards.specs.Cards.{hasTable, tableOf}
 use Rattle.cards.proofs.Tables.{table-number, table-at-base}
 use Rattle.plans.specs.declared.Plan.{Plan}
 use Rattle.plans.specs.Curves.{halves}
 use Rattle.plans.specs.Orders.{Each, fulls, MoreDuty, LessCount}
-use Rattle.plans.specs.Plans.{Curve, planned}
+use Rattle.plans.specs.Plans.{planned}
 use Rattle.records.specs.Records.{Sized as Lengths}
-use Rattle.scripts.specs.Scripts.{Pair, writes, fullOf, script, scriptOf}
-use Rattle.scripts.specs.NeverSlower.{All, Within, Typed}
-use Rattle.scripts.proofs.Memory.{Memory}
+use Rattle.scripts.specs.Scripts.{writes, fullOf, scriptOf}
+use Rattle.scripts.specs.NeverSlower.{Within, Typed}
 use Rattle.scripts.proofs.Safe.{Fits}
 use Rattle.scripts.proofs.Rules.{ruleOf}
 use Rattle.scripts.proofs.Played.{bytesOf, AllWhole, whole-append, whole-writes, settings-free, speeds-free}

@@ -1,35 +1,32 @@
 -- Demand 3: whatever a play leaves in an image is never slower than the slower of the old curve and the plan, is the plan after the last write, and
 -- differs from the old image in the fan table alone. The theorem 'raise, move, settle', told of the answers that callers get.
 -- Assumes nothing.
-use Prim.Native.Nat.{ℕ, zero, suc, _≤_}
-use native.Mathlib.Omega.{arith}
-use mathlib.Core.Path.{_≡_, refl, sym, ap, ap₂, subst, _∙_}
-use mathlib.Core.Bool.{Bool, true, false, So, cond, not}
+use Prim.Native.Nat.{ℕ, _≤_}
+use mathlib.Core.Path.{_≡_, refl, sym, ap, subst, _∙_}
+use mathlib.Core.Bool.{So, cond}
 use mathlib.Core.List.{List, [], _∷_, _++_}
 use borrow.Author.Tests.{eqb-true, not-false, eq-eqb}
 use lib.Dec.{eqb}
 use lib.ListN.{length, getD, take}
 use lib.Seq.{take-all}
-use Rattle.refusal.specs.Checks.{Check, first, told}
+use Rattle.refusal.specs.Checks.{first}
 use Rattle.refusal.proofs.Passed.{all-passed}
 use Rattle.cards.specs.declared.Chip.{Chip}
 use Rattle.cards.specs.declared.Chip.the-variants.{Nct7802y, F75373s, Nct80}
 use Rattle.cards.specs.declared.Named.{Named}
-use Rattle.cards.specs.declared.Named.the-variants.{Known, Unknown}
+use Rattle.cards.specs.declared.Named.the-variants.{Known}
 use Rattle.cards.specs.Rows.{Table, positions}
-use Rattle.cards.specs.Cards.{chipOf, whenKnown, unknown, hasTable, noTable, tableOf}
-use Rattle.images.specs.Images.{notAnImage}
+use Rattle.cards.specs.Cards.{chipOf, whenKnown, hasTable, tableOf}
 use Rattle.plans.specs.declared.Plan.{Plan}
 use Rattle.plans.specs.declared.Asked.{Asked}
-use Rattle.plans.specs.declared.Asked.the-variants.{Speed, Refused}
+use Rattle.plans.specs.declared.Asked.the-variants.{Speed}
 use Rattle.plans.specs.Orders.{fulls}
-use Rattle.plans.specs.Plans.{Curve, planned, held, asks, tellsAsked, AsksImage, AsksPlan}
+use Rattle.plans.specs.Plans.{Curve, planned, held, asks, AsksImage, AsksPlan}
 use Rattle.plans.proofs.Unique.{tellsAsked-injective}
-use Rattle.scripts.specs.declared.Made.{Made}
 use Rattle.scripts.specs.declared.Made.the-variants as made
-use Rattle.scripts.specs.Scripts.{Pair, writes, fullOf, script, scriptOf, scriptFor, played, playChecks, Plays}
+use Rattle.scripts.specs.Scripts.{Pair, writes, fullOf, script, scriptOf, played, playChecks, Plays}
 use Rattle.scripts.specs.Rules.{Rule}
-use Rattle.scripts.specs.NeverSlower.{All, Outside, Within, Typed, AsFast, slower, NeverSlower, Demand3}
+use Rattle.scripts.specs.NeverSlower.{Outside, Within, Typed, AsFast, slower, Demand3}
 use Rattle.scripts.proofs.Memory.{Memory, puts, elsewhere-writes, elsewhere-append, cut-elsewhere}
 use Rattle.scripts.proofs.Safe.{curveIn, asked, never-slower, ends-planned}
 use Rattle.scripts.proofs.Rules.{ruleOf}

@@ -1,16 +1,15 @@
 -- The pairs of a script by their places: first every speed register in a row with the full byte, then every register of the table in a row with the
 -- bytes of the plan's body.
 -- Assumes nothing.
-use Prim.Native.Nat.{ℕ, zero, suc, _+_, _-_, _≤_, _<_}
+use Prim.Native.Nat.{ℕ, zero, suc, _+_, _-_, _<_}
 use native.Mathlib.Nat.{suc-inj, add-suc, suc-add, add-zero, zero-add, le-of-suc-le-suc, not-suc-le-zero}
 use native.Mathlib.Omega.{arith}
-use mathlib.Core.Path.{_≡_, refl, sym, ap, ap₂, subst, _∙_}
-use mathlib.Core.List.{List, [], _∷_, _++_, append-assoc}
-use lib.ListN.{length, getD, replicate, length-append, length-replicate, getD-replicate, List·getD-append}
+use mathlib.Core.Path.{_≡_, refl, sym, ap, ap₂, _∙_}
+use mathlib.Core.List.{List, [], _∷_, _++_}
+use lib.ListN.{length, getD, length-append, length-replicate, getD-replicate, List·getD-append}
 use lib.Seq.{getD-append-add}
-use Rattle.cards.specs.Rows.{Table, from, positions}
+use Rattle.cards.specs.Rows.{Table, from}
 use Rattle.cards.proofs.Columns.{run-length, run-at}
-use Rattle.plans.specs.Curves.{points}
 use Rattle.plans.specs.Orders.{fulls}
 use Rattle.plans.specs.Plans.{Curve}
 use Rattle.records.specs.Records.{body}

@@ -4,17 +4,17 @@
 use Prim.Native.Nat.{ℕ, zero, suc, _<_, _^_, suc-le-suc}
 use native.Mathlib.Nat.{suc-inj}
 use native.Mathlib.Omega.{arith}
-use mathlib.Core.Path.{_≡_, refl, sym, ap, subst, _∙_}
-use mathlib.Core.Bool.{Bool, true, false, So, cond}
+use mathlib.Core.Path.{_≡_, refl, sym, ap, _∙_}
+use mathlib.Core.Bool.{Bool, true, false, So}
 use mathlib.Core.List.{List, [], _∷_, _++_}
 use borrow.Author.Tests.{eqb-true, eqb-false}
 use lib.Dec.{eqb}
 use lib.ListN.{length, getD, take}
 use Rattle.cards.specs.declared.Chip.{Chip}
-use Rattle.cards.specs.Rows.{Table, positions}
+use Rattle.cards.specs.Rows.{positions}
 use Rattle.cards.specs.Cards.{rowOf, hasTable, tableOf}
 use Rattle.cards.proofs.Tables.{table-mask, table-within, table-distinct}
-use Rattle.images.specs.Bytes.{storedAt, written}
+use Rattle.images.specs.Bytes.{written}
 use Rattle.images.proofs.Laws.{storedAt-length, storedAt-other, storedAt-full}
 use Rattle.scripts.specs.Scripts.{Pair, writes, played}
 use Rattle.scripts.specs.NeverSlower.{All, Outside, Within}

@@ -1,13 +1,12 @@
 -- What is laid out from a plan's record is its script: the record's body stands behind its header in register order, and a table's registers stand in a row.
 -- Assumes nothing.
-use Prim.Native.Nat.{ℕ, zero, suc, _+_, _-_, _*_, _≤_, _<_}
+use Prim.Native.Nat.{ℕ, zero, suc, _+_, _-_, _≤_, _<_}
 use native.Mathlib.Nat.{add-assoc}
-use native.Mathlib.Numerals.{add-one}
 use native.Mathlib.Omega.{arith}
 use mathlib.Core.Path.{_≡_, refl, sym, ap, ap₂, subst, _∙_}
-use mathlib.Core.Bool.{Bool, true, false, So, cond, not, false≢true, true≢false}
+use mathlib.Core.Bool.{Bool, true, false, So, cond, false≢true, true≢false}
 use mathlib.Core.List.{List, [], _∷_, _++_, append-assoc}
-use borrow.Author.Tests.{ltb-true, ltb-false, lt-ltb, le-ltb, not-false}
+use borrow.Author.Tests.{ltb-true, ltb-false, le-ltb, not-false}
 use lib.Dec.{eqb, ltb}
 use lib.ListN.{length, getD, take, drop, length-append, List·getD-append}
 use lib.Seq.{take-suc, getD-append-add}
@@ -18,14 +17,13 @@ use Rattle.cards.specs.declared.Chip.the-variants.{Nct7802y, F75373s, Nct80}
 use Rattle.cards.specs.declared.Named.{Named}
 use Rattle.cards.specs.declared.Named.the-variants.{Known, Unknown}
 use Rattle.cards.specs.Rows.{Table}
-use Rattle.cards.specs.Cards.{chipOf, whenKnown, hasTable, tableOf, tableAt, baseOf, noTable}
+use Rattle.cards.specs.Cards.{chipOf, whenKnown, hasTable, tableAt, baseOf}
 use Rattle.cards.proofs.Tables.{table-number, table-at-base}
 use Rattle.plans.specs.declared.Plan.{Plan}
 use Rattle.plans.specs.Plans.{Curve, planned, planChecks}
 use Rattle.records.specs.Records.{Sized as Lengths, header, body, recordOf, encoded, tellsUsed, roomChecks, writeChecks, Writes}
 use Rattle.records.specs.declared.Used.{Used}
 use Rattle.scripts.specs.declared.making.Script.{Script}
-use Rattle.scripts.specs.declared.making.Pair as code
 use Rattle.scripts.specs.declared.making.Ready.{Ready}
 use Rattle.scripts.specs.Scripts.{Pair, fullOf, script, scriptOf, scriptFor}
 use Rattle.scripts.specs.Making.{writesOf, pairAt, pairsOf, Sized, laidOut, scriptIn, Describes, tellsReady, Prepares}

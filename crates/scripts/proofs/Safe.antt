@@ -1,20 +1,19 @@
 -- Raise, move, settle: a script cut anywhere, and played again any number of times, never asks slower than the slower of the first curve and the
 -- plan; played to its end it leaves the plan. Stated once, over registers as a memory, for every rule and any number of points.
 -- Assumes nothing.
-use Prim.Native.Nat.{ℕ, suc, _≤_}
+use Prim.Native.Nat.{ℕ}
 use mathlib.Core.Path.{_≡_, refl, sym, ap, ap₂, subst, _∙_}
 use mathlib.Core.Bool.{Bool, true, false, cond}
 use mathlib.Core.List.{List, [], _∷_, _++_, map}
 use lib.Dec.{eqb}
-use lib.ListN.{length, take, replicate, length-replicate, length-map}
-use lib.Seq.{take-all}
+use lib.ListN.{length, take, replicate, length-replicate}
 use Rattle.cards.specs.Rows.{Table}
 use Rattle.plans.specs.Orders.{Each, fulls}
 use Rattle.plans.specs.Plans.{Curve}
 use Rattle.scripts.specs.Scripts.{Pair, writes, script}
 use Rattle.scripts.specs.Rules.{Rule}
 use Rattle.scripts.specs.NeverSlower.{Outside}
-use Rattle.scripts.proofs.Memory.{Memory, put, puts, put-there, put-elsewhere, puts-append, Distinct, Disjoint, held-elsewhere, puts-elsewhere, all-elsewhere, all-there, Always, always-cut, always-then, always-beside, always-beside-all}
+use Rattle.scripts.proofs.Memory.{Memory, put, puts, put-there, puts-append, Distinct, Disjoint, held-elsewhere, all-elsewhere, all-there, Always, always-cut, always-then, always-beside, always-beside-all}
 
 -- what a table's registers hold
 abbrev pub curveIn : Table → Memory → Curve

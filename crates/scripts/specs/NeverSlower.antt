@@ -8,7 +8,7 @@ use lib.ListN.{length, getD}
 use Rattle.cards.specs.declared.Chip.{Chip}
 use Rattle.cards.specs.declared.Chip.the-variants.{Nct7802y, F75373s, Nct80}
 use Rattle.cards.specs.Rows.{positions}
-use Rattle.cards.specs.Cards.{chipOf, whenKnown, tableOf}
+use Rattle.cards.specs.Cards.{tableOf}
 use Rattle.plans.specs.declared.Plan.{Plan}
 use Rattle.plans.specs.declared.Asked.{Asked}
 use Rattle.plans.specs.declared.Asked.the-variants.{Speed, Refused}

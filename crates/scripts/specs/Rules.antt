@@ -1,12 +1,8 @@
 -- Demand 3, said once for every chip: what a chip's rule must do, and what two curves must have in common with a fan table, for a script to be never slower.
 -- Assumes nothing.
 use Prim.Native.Nat.{ℕ}
-use mathlib.Core.Path.{_≡_}
 use mathlib.Core.List.{List}
-use lib.ListN.{length}
-use Rattle.cards.specs.Rows.{Table}
 use Rattle.plans.specs.Orders.{Each, fulls}
-use Rattle.plans.specs.Plans.{Curve}
 
 -- A chip's rule. `Fast a b`: a is at least as fast as b, of two speeds asked and of two bytes of a speed register; `slower a b`: the slower of two.
 -- It asks at least as fast where every speed register is at least as fast (`rises`), and where every speed register is full it asks

@@ -5,7 +5,7 @@ use cards::Place;
 use plans::Plan;
 use records::Used;
 use refusal::Refusal;
-ghost use Prim.Native.Nat.{_+_, _≤_, _<_};
+ghost use Prim.Native.Nat.{_+_, _<_};
 ghost use mathlib.Core.Path.{_≡_};
 ghost use Rattle.scripts.specs.Making.{pairAt, writesOf, Sized, scriptIn, Lays, Prepares};
 

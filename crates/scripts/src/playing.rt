@@ -3,7 +3,6 @@ use crate::making::Script;
 ghost use Prim.Native.Nat.{_≤_, min};
 ghost use mathlib.Core.Path.{_≡_};
 ghost use lib.ListN.{length};
-ghost use Rattle.cards.specs.declared.Named.the-variants.{Known};
 ghost use Rattle.cards.specs.Cards.{chipOf, whenKnown};
 ghost use Rattle.scripts.specs.Scripts.{played};
 ghost use Rattle.scripts.specs.Making.{pairsOf, writesOf, Sized};

@@ -1,12 +1,12 @@
 -- `output::put_all` meets its contract: the pairs passed stand in the buffer, and the rest of it is as it was.
 -- Assumes nothing.
 use Rattle.scripts.proofs.Turns.{Written, written-none, written-more}
-use Rattle.scripts.specs.Making.{pairsOf, writesOf}
+use Rattle.scripts.specs.Making.{pairsOf}
 use Rattle.scripts.specs.Scripts.{flat}
 use Rattle.scripts.specs.declared.making.Pair as code
-use lib.ListN.{length, drop, length-set}
+use lib.ListN.{drop, length-set}
 use mathlib.Core.List.{_++_}
-use Prim.Native.Nat.{ℕ, _-_, _<_, _*_}
+use Prim.Native.Nat.{ℕ, _-_, _*_}
 use mathlib.Core.Path.{_≡_, ap, _∙_}
 use native.Mathlib.Omega.{arith}
 use borrow.Author.Needs.{needs}

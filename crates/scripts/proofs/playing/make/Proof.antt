@@ -1,10 +1,8 @@
 -- `playing::make` meets its contract: the writes passed are made on the image, each by the model of `images`.
 -- Assumes nothing.
 use Rattle.scripts.proofs.Turns.{Made, made-none, made-more, after}
-use Rattle.scripts.specs.Making.{writesOf}
 use Rattle.scripts.specs.declared.making.Pair as code
-use lib.ListN.{length}
-use Prim.Native.Nat.{ℕ, _-_, _<_}
+use Prim.Native.Nat.{ℕ, _-_}
 use mathlib.Core.Path.{_≡_, ap, sym, _∙_}
 use native.Mathlib.Omega.{arith}
 use borrow.Author.Needs.{needs}
