@@ -1,6 +1,5 @@
 """Scripts, and plays that stop at each number of writes."""
 from cards import confirmed, reset, write
-from images import LENGTHS
 from plans import PAPER, REFUSED, STEPPED, TABLES, Plan, asked, asked_of_image, body, pairs, refusal, show, speed
 
 
@@ -42,13 +41,12 @@ def play(plan, image, count):
     return "writes %d" % len(made)
 
 
-def plays(plan):
-    """On lengths of 5Ah, which is no chip's image: every play is refused."""
-    for length in LENGTHS:
-        image = [0x5A] * length
-        answer = play(plan, image, 24)
-        assert answer.startswith("refused") and image == [0x5A] * length
-        print("play %s length %d %s kept" % (show(plan), length, answer))
+def refused_play(plan, length):
+    """On bytes that are all 5Ah, which is no chip's image: every play is refused."""
+    image = [0x5A] * length
+    answer = play(plan, image, 24)
+    assert answer.startswith("refused") and image == [0x5A] * length
+    print("play %s length %d %s kept" % (show(plan), length, answer))
 
 
 TEMPERATURES = {1: (-20, 38, 43, 53, 60), 2: (15, 30, 50, 60, 75)}
@@ -112,7 +110,9 @@ def scripts():
         line(plan, 0)
         line(plan, 50)
     for _, plan in REFUSED:
-        plays(plan)
-    plays(PAPER)
-    plays(STEPPED)
+        refused_play(plan, 255)
+        refused_play(plan, 256)
+    for plan in (PAPER, STEPPED):
+        for length in (0, 255, 256, 257):
+            refused_play(plan, length)
     demand_3()
