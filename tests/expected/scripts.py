@@ -3,14 +3,18 @@ from cards import confirmed, reset, write
 from plans import PAPER, REFUSED, STEPPED, TABLES, Plan, asked, asked_of_image, body, pairs, refusal, show, speed
 
 
+# The paper's own example: what the program prints for its plan.
+EXAMPLE = "A5FFA6FFA7FFA8FF" + "A01EA128A232A337A43C" + "A58CA6AAA7C8A8E6"
+
+
 def script(plan):
     """Pairs of address and byte, in the order of the paper."""
     at = TABLES[plan.chip][plan.table - 1]
-    bytes = body(plan)
+    data = body(plan)
     settings, full = (5, 0xFF) if plan.chip == 1 else (4, 0x00)
-    raised = [(at + k, full) for k in range(settings, len(bytes))]
-    moved = [(at + k, bytes[k]) for k in range(settings)]
-    settled = [(at + k, bytes[k]) for k in range(settings, len(bytes))]
+    raised = [(at + k, full) for k in range(settings, len(data))]
+    moved = [(at + k, data[k]) for k in range(settings)]
+    settled = [(at + k, data[k]) for k in range(settings, len(data))]
     return raised + moved + settled
 
 
@@ -101,7 +105,7 @@ def demand_3():
 
 
 def scripts():
-    assert len(script(PAPER)) == 13 and len(script(STEPPED)) == 24
+    assert "".join("%02X%02X" % pair for pair in script(PAPER)) == EXAMPLE and len(script(STEPPED)) == 24
     for room in (25, 26, 50):
         line(PAPER, room)
     for room in (47, 48, 50):
