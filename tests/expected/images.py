@@ -2,7 +2,6 @@
 from cards import CARDS, NAMES, confirmed, reset, write
 
 CHIPS = (0, 1, 2, 3, 4, 255)
-LENGTHS = (0, 255, 256, 257)
 
 
 def rows():
@@ -31,7 +30,7 @@ def image_answer(call, chip, length):
 def image_calls():
     for call in ("write", "read", "reset", "identity"):
         for chip in CHIPS:
-            for length in LENGTHS:
+            for length in (0, 255, 256, 257):
                 print("%s chip %d length %d %s" % (call, chip, length, image_answer(call, chip, length)))
 
 

@@ -79,11 +79,11 @@ def body(plan):
     return [value % 256 for value in plan.values]
 
 
-def decoded(chip, bytes):
+def decoded(chip, data):
     """The values that stand in bytes in register order."""
     if chip == 1:
-        return tuple(signed(b) for b in bytes[:5]) + tuple(bytes[5:9])
-    return tuple(bytes[:4]) + tuple(256 * bytes[k] + bytes[k + 1] for k in range(4, 14, 2))
+        return tuple(signed(b) for b in data[:5]) + tuple(data[5:9])
+    return tuple(data[:4]) + tuple(256 * data[k] + data[k + 1] for k in range(4, 14, 2))
 
 
 def held(chip, table, image):
@@ -97,17 +97,17 @@ def asked_of_image(chip, table, image, t):
     return "refused %d" % refused if refused else speed(chip, held(chip, table, image), t)
 
 
-def pairs(bytes):
+def pairs(data):
     """In hexadecimal, two by two, with a space before each two."""
-    return "".join((" " if k % 2 == 0 else "") + "%02X" % b for k, b in enumerate(bytes))
+    return "".join((" " if k % 2 == 0 else "") + "%02X" % b for k, b in enumerate(data))
 
 
 def show(plan):
     """Chip and table, then T1 to T4, critical, FL1 to FL4, B1 to B4 and C1 to C5; the other chip's are zero if nothing else is said."""
     mine, other = plan.values, plan.other or (0,) * 9
     slope, steps = (other, mine) if plan.chip == 2 else (mine, other)
-    bytes = [value % 256 for value in slope]
-    shown = pairs(bytes[:4]) + pairs(bytes[4:5]) + pairs(bytes[5:]) + pairs(steps[:4])
+    data = [value % 256 for value in slope]
+    shown = pairs(data[:4]) + pairs(data[4:5]) + pairs(data[5:]) + pairs(steps[:4])
     return "chip %d table %d%s" % (plan.chip, plan.table, shown) + "".join(" %04X" % c for c in steps[4:])
 
 
@@ -132,6 +132,5 @@ REFUSED = (
     (7, Plan(1, 3, (30, 40, 50, 55, 60, 140, 170, 200, 199))),
     (7, Plan(2, 2, (60, 50, 40, 30, 0, 0x0200, 0x01FF, 0x0300, 0xFFFF))),
 )
-for number, plan in REFUSED:
-    assert refusal(plan) == number
+assert all(refusal(plan) == number for number, plan in REFUSED)
 assert refusal(PAPER) is None and refusal(STEPPED) is None

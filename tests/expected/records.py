@@ -11,31 +11,31 @@ def record(plan):
     return MARK + [plan.chip, plan.table] + body(plan)
 
 
-def found(bytes):
+def found(data):
     """The answer and the plan: the checks 1 to 7 in their order."""
-    if len(bytes) < 4:
+    if len(data) < 4:
         return 1, NOTHING
-    if bytes[:2] != MARK:
+    if data[:2] != MARK:
         return 2, NOTHING
-    chip, table = bytes[2:4]
+    chip, table = data[2:4]
     if chip not in NAMES:
         return 3, NOTHING
     if not 1 <= table <= len(TABLES[chip]):
         return 4, NOTHING
-    if len(bytes) < LENGTHS[chip]:
+    if len(data) < LENGTHS[chip]:
         return 5, NOTHING
-    plan = Plan(chip, table, decoded(chip, bytes[4:]))
+    plan = Plan(chip, table, decoded(chip, data[4:]))
     if refusal(plan):
         return refusal(plan), NOTHING
     return None, plan
 
 
-def read(number, bytes):
-    """`number` is the refusal that the bytes are made for, None where they are good."""
-    refused, plan = found(bytes)
+def read(number, data):
+    """`number` is the refusal that the data are made for, None where they are good."""
+    refused, plan = found(data)
     assert refused == number
     answer = "refused %d" % refused if refused else "used %d" % LENGTHS[plan.chip]
-    print("read%s %s %s" % (pairs(bytes), answer, show(plan)))
+    print("read%s %s %s" % (pairs(data), answer, show(plan)))
     return plan
 
 

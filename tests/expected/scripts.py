@@ -1,17 +1,20 @@
 """Scripts, and plays that stop at each number of writes."""
 from cards import confirmed, reset, write
-from images import LENGTHS
 from plans import PAPER, REFUSED, STEPPED, TABLES, Plan, asked, asked_of_image, body, pairs, refusal, show, speed
+
+
+# The paper's own example: what the program prints for its plan.
+EXAMPLE = "A5FFA6FFA7FFA8FF" + "A01EA128A232A337A43C" + "A58CA6AAA7C8A8E6"
 
 
 def script(plan):
     """Pairs of address and byte, in the order of the paper."""
     at = TABLES[plan.chip][plan.table - 1]
-    bytes = body(plan)
+    data = body(plan)
     settings, full = (5, 0xFF) if plan.chip == 1 else (4, 0x00)
-    raised = [(at + k, full) for k in range(settings, len(bytes))]
-    moved = [(at + k, bytes[k]) for k in range(settings)]
-    settled = [(at + k, bytes[k]) for k in range(settings, len(bytes))]
+    raised = [(at + k, full) for k in range(settings, len(data))]
+    moved = [(at + k, data[k]) for k in range(settings)]
+    settled = [(at + k, data[k]) for k in range(settings, len(data))]
     return raised + moved + settled
 
 
@@ -42,13 +45,12 @@ def play(plan, image, count):
     return "writes %d" % len(made)
 
 
-def plays(plan):
-    """On lengths of 5Ah, which is no chip's image: every play is refused."""
-    for length in LENGTHS:
-        image = [0x5A] * length
-        answer = play(plan, image, 24)
-        assert answer.startswith("refused") and image == [0x5A] * length
-        print("play %s length %d %s kept" % (show(plan), length, answer))
+def refused_play(plan, length):
+    """On bytes that are all 5Ah, which is no chip's image: every play is refused."""
+    image = [0x5A] * length
+    answer = play(plan, image, 24)
+    assert answer.startswith("refused") and image == [0x5A] * length
+    print("play %s length %d %s kept" % (show(plan), length, answer))
 
 
 TEMPERATURES = {1: (-20, 38, 43, 53, 60), 2: (15, 30, 50, 60, 75)}
@@ -103,7 +105,7 @@ def demand_3():
 
 
 def scripts():
-    assert len(script(PAPER)) == 13 and len(script(STEPPED)) == 24
+    assert "".join("%02X%02X" % pair for pair in script(PAPER)) == EXAMPLE and len(script(STEPPED)) == 24
     for room in (25, 26, 50):
         line(PAPER, room)
     for room in (47, 48, 50):
@@ -112,7 +114,9 @@ def scripts():
         line(plan, 0)
         line(plan, 50)
     for _, plan in REFUSED:
-        plays(plan)
-    plays(PAPER)
-    plays(STEPPED)
+        refused_play(plan, 255)
+        refused_play(plan, 256)
+    for plan in (PAPER, STEPPED):
+        for length in (0, 255, 256, 257):
+            refused_play(plan, length)
     demand_3()

@@ -1,5 +1,4 @@
 // What curves ask, of plans and of images: `.. at T is S`. T is signed for chip 1; S is a duty in decimal, for other chips a count in hexadecimal.
-use crate::image_calls;
 use crate::print;
 use crate::samples;
 use plans::Asked;
@@ -16,20 +15,16 @@ pub fn degrees(chip: u8, t: u8) {
     print::decimal(t as u64);
 }
 
-fn speed(chip: u8, speed: u16) {
-    if chip == 1 {
-        print::decimal(speed as u64);
-    } else {
-        print::word(speed);
-    }
-}
-
 pub fn answer(chip: u8, asked: Asked) {
     match asked {
         Asked::Refused(r) => print::refused(r),
         Asked::Speed(s) => {
             print::text(b" ");
-            speed(chip, s);
+            if chip == 1 {
+                print::decimal(s as u64);
+            } else {
+                print::word(s);
+            }
         }
     }
 }
@@ -44,7 +39,7 @@ fn end(chip: u8, t: u8, asked: Asked) {
 
 fn paper_at(t: u8) {
     print::text(b"plan duty");
-    end(1, t, plans::asked_of_plan(samples::paper(), t));
+    end(1, t, plans::asked_of_plan(samples::paper(1, 3), t));
 }
 
 fn steps_at(t: u8) {
@@ -79,30 +74,28 @@ fn figures() {
     steps_at(51);
 }
 
-// The bytes of -128 to 127 in their order.
-fn in_order(k: u8) -> u8 {
-    if k < 128 { k + 128 } else { k - 128 }
-}
-
+// From -128 to 127: the bytes with their top bit turned over are in order.
 fn whole_curve() {
     for k in 0..=255u8 {
-        paper_at(in_order(k));
+        paper_at(k ^ 0x80);
     }
 }
 
-// Above, at and below a bound.
-fn beside(above: u8, bound: u8, below: u8) {
-    steps_at(above);
-    steps_at(bound);
-    steps_at(below);
-}
-
+// Above, at and below each bound, and at both ends.
 fn all_steps() {
     steps_at(255);
-    beside(61, 60, 59);
-    beside(51, 50, 49);
-    beside(41, 40, 39);
-    beside(31, 30, 29);
+    steps_at(61);
+    steps_at(60);
+    steps_at(59);
+    steps_at(51);
+    steps_at(50);
+    steps_at(49);
+    steps_at(41);
+    steps_at(40);
+    steps_at(39);
+    steps_at(31);
+    steps_at(30);
+    steps_at(29);
     steps_at(0);
 }
 
@@ -149,29 +142,16 @@ fn power_on(chip: u8, table: u8) {
     }
 }
 
-// Of an image that is all 5Ah.
-fn part_at(chip: u8, table: u8, buffer: &[u8], length: usize) {
-    if length <= buffer.len() {
-        image_at(chip, table, &buffer[..length], 91);
-    }
-}
-
+// Of bytes that are all 5Ah, one too few for an image, as many as it has, and one too many.
 fn lengths(chip: u8, table: u8) {
-    let buffer = [0x5Au8; 257];
-    for k in 0..4u8 {
-        part_at(chip, table, &buffer, image_calls::length(k));
-    }
+    image_at(chip, table, &[0x5Au8; 255], 91);
+    image_at(chip, table, &[0x5Au8; 256], 91);
+    image_at(chip, table, &[0x5Au8; 257], 91);
 }
 
 fn tables(chip: u8) {
     for table in 0..5u8 {
         lengths(chip, table);
-    }
-}
-
-fn chips() {
-    for k in 0..6u8 {
-        tables(image_calls::chip(k));
     }
 }
 
@@ -185,5 +165,10 @@ pub fn print_all() {
     power_on(1, 3);
     power_on(2, 1);
     power_on(2, 2);
-    chips();
+    tables(0);
+    tables(1);
+    tables(2);
+    tables(3);
+    tables(4);
+    tables(255);
 }

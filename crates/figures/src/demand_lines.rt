@@ -1,7 +1,6 @@
 // Plays that stop at each number of writes, `stop chip C table T count N writes N changed N`, then for five temperatures `T OLD STOP PLAN`: the speed
 // that the image asked before, asks at the stop, and that the plan asks. At no stop is it slower than the slower of the old one and the plan's.
 use crate::curve_lines;
-use crate::image_calls;
 use crate::numbers;
 use crate::print;
 use crate::samples;
@@ -95,40 +94,27 @@ fn loaded(plan: Plan) -> [u8; 256] {
     image
 }
 
-// With the temperatures first, 38 degrees would ask 140, less than either curve.
-fn slope() -> Plan {
-    samples::slope(1, 1, [40, 44, 48, 52], 65, [150, 210, 220, 250])
-}
-
-// From 0200h to 01FFh: with the low byte first, 60 degrees would ask 02FFh.
-fn steps() -> Plan {
-    samples::steps(
+pub fn print_all() {
+    // With the temperatures first, 38 degrees would ask 140, less than either curve.
+    let slope = samples::slope(1, 1, [40, 44, 48, 52], 65, [150, 210, 220, 250]);
+    stops(slope, power_on(1), 15);
+    let steps = samples::steps(
         1,
         [70, 55, 45, 20],
         [0x00FF, 0x01FF, 0x02FF, 0x0300, 0xFFFF],
-    )
-}
-
-// The image of another chip, and an image with one bit of its identity turned over: nothing is written.
-fn not_confirmed() {
-    stop(slope(), power_on(2), 13);
-    stop(steps(), power_on(1), 24);
+    );
+    stops(steps, power_on(2), 26);
+    // From 0200h to 01FFh: with the low byte first, 60 degrees would ask 02FFh.
+    let earlier = samples::steps(
+        1,
+        [60, 50, 40, 30],
+        [0x0100, 0x0200, 0x0300, 0x0400, 0x0500],
+    );
+    stops(steps, loaded(earlier), 26);
+    // The image of another chip, and an image with one bit of its identity turned over: nothing is written.
+    stop(slope, power_on(2), 13);
+    stop(steps, power_on(1), 24);
     let mut image = power_on(1);
     image[0xFF] = image[0xFF] ^ 0x10;
-    stop(slope(), image, 13);
-}
-
-pub fn print_all() {
-    stops(slope(), power_on(1), 15);
-    stops(steps(), power_on(2), 26);
-    stops(
-        steps(),
-        loaded(samples::steps(
-            1,
-            [60, 50, 40, 30],
-            [0x0100, 0x0200, 0x0300, 0x0400, 0x0500],
-        )),
-        26,
-    );
-    not_confirmed();
+    stop(slope, image, 13);
 }

@@ -7,7 +7,7 @@ use images::Outcome;
 
 const FILL: u8 = 0x5A;
 
-pub fn chip(k: u8) -> u8 {
+fn chip(k: u8) -> u8 {
     match k {
         0 => 0,
         1 => 1,
@@ -18,7 +18,7 @@ pub fn chip(k: u8) -> u8 {
     }
 }
 
-pub fn length(k: u8) -> usize {
+fn length(k: u8) -> usize {
     match k {
         0 => 0,
         1 => 255,

@@ -116,22 +116,18 @@ fn speeds_out_of_order() {
 }
 
 // Into no room and into plenty: 7 is before 9.
-fn refused_plan(plan: Plan) {
-    write(plan, 0);
-    write(plan, 20);
-}
-
 fn refused_plans() {
     for k in 0..14u8 {
-        refused_plan(samples::refused(k));
+        write(samples::refused(k), 0);
+        write(samples::refused(k), 20);
     }
 }
 
 // 9 where a byte is missing; a tail is kept.
 fn rooms() {
-    write(samples::paper(), 12);
-    write(samples::paper(), 13);
-    write(samples::paper(), 14);
+    write(samples::paper(1, 3), 12);
+    write(samples::paper(1, 3), 13);
+    write(samples::paper(1, 3), 14);
     write(samples::stepped(), 17);
     write(samples::stepped(), 18);
     write(samples::stepped(), 20);

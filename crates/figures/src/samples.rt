@@ -28,9 +28,9 @@ pub fn steps(table: u8, bounds: [u8; 4], counts: [u16; 5]) -> Plan {
     }
 }
 
-// The rules paper's plan.
-pub fn paper() -> Plan {
-    slope(1, 3, [30, 40, 50, 55], 60, [140, 170, 200, 230])
+// The values of the rules paper's plan, which is for table 3 of chip 1.
+pub fn paper(chip: u8, table: u8) -> Plan {
+    slope(chip, table, [30, 40, 50, 55], 60, [140, 170, 200, 230])
 }
 
 // A plan of chip 2 whose bytes are all different.
@@ -42,21 +42,16 @@ pub fn stepped() -> Plan {
     )
 }
 
-// The paper's values under a chip and a table.
-fn under(chip: u8, table: u8) -> Plan {
-    slope(chip, table, [30, 40, 50, 55], 60, [140, 170, 200, 230])
-}
-
 // Plans that a check refuses, and several that two or more would: then the first is the answer.
 pub fn refused(k: u8) -> Plan {
     match k {
-        0 => under(0, 3),
+        0 => paper(0, 3),
         1 => slope(4, 9, [40, 30, 50, 55], 60, [140, 170, 200, 199]),
-        2 => under(1, 0),
-        3 => under(1, 4),
+        2 => paper(1, 0),
+        3 => paper(1, 4),
         4 => slope(1, 4, [40, 30, 50, 55], 60, [140, 170, 200, 199]),
         5 => steps(3, [60, 50, 40, 30], [0, 1, 2, 3, 4]),
-        6 => under(3, 1),
+        6 => paper(3, 1),
         7 => slope(1, 1, [30, 40, 40, 55], 60, [140, 170, 200, 230]),
         8 => slope(1, 2, [30, 40, 50, 55], 54, [140, 170, 200, 230]),
         9 => slope(1, 3, [30, 0x80, 50, 55], 60, [140, 139, 200, 230]),
@@ -79,12 +74,6 @@ fn count(count: u16) {
     print::word(count);
 }
 
-fn all_counts(counts: [u16; 5]) {
-    for k in 0..5 {
-        count(counts[k]);
-    }
-}
-
 pub fn show(plan: Plan) {
     head(plan);
     let temperatures = plan.temperatures;
@@ -96,5 +85,9 @@ pub fn show(plan: Plan) {
     let bounds = plan.bounds;
     print::bytes(&bounds);
     let counts = plan.counts;
-    all_counts(counts);
+    count(counts[0]);
+    count(counts[1]);
+    count(counts[2]);
+    count(counts[3]);
+    count(counts[4]);
 }

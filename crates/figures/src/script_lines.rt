@@ -36,23 +36,19 @@ fn script(plan: Plan, room: usize) {
 
 // 9 where a byte is missing; a tail is kept.
 fn rooms() {
-    script(samples::paper(), 25);
-    script(samples::paper(), 26);
-    script(samples::paper(), 50);
+    script(samples::paper(1, 3), 25);
+    script(samples::paper(1, 3), 26);
+    script(samples::paper(1, 3), 50);
     script(samples::stepped(), 47);
     script(samples::stepped(), 48);
     script(samples::stepped(), 50);
 }
 
 // Into no room and into plenty: 7 is before 9.
-fn refused_script(plan: Plan) {
-    script(plan, 0);
-    script(plan, 50);
-}
-
 fn refused_scripts() {
     for k in 0..14u8 {
-        refused_script(samples::refused(k));
+        script(samples::refused(k), 0);
+        script(samples::refused(k), 50);
     }
 }
 
@@ -76,23 +72,26 @@ fn play(plan: Plan, length: usize) {
     print::text(b"\n");
 }
 
-// On no image and on another's: 7 is before 8, and 8 before 10.
-fn plays(plan: Plan) {
-    for k in 0..4u8 {
-        play(plan, image_calls::length(k));
+// On too few bytes for an image, and on enough: 7 is before 8 and 10.
+fn refused_plays() {
+    for k in 0..14u8 {
+        play(samples::refused(k), 255);
+        play(samples::refused(k), 256);
     }
 }
 
-fn refused_plays() {
-    for k in 0..14u8 {
-        plays(samples::refused(k));
-    }
+// 8, and 8 before 10.
+fn not_images(plan: Plan) {
+    play(plan, 0);
+    play(plan, 255);
+    play(plan, 256);
+    play(plan, 257);
 }
 
 pub fn print_all() {
     rooms();
     refused_scripts();
     refused_plays();
-    plays(samples::paper());
-    plays(samples::stepped());
+    not_images(samples::paper(1, 3));
+    not_images(samples::stepped());
 }

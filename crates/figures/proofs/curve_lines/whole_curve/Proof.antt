@@ -14,9 +14,6 @@ abbrev μ-loop : tie.MeasureT-loop
 loop-holds : tie.Need-loop-holds Inv-loop μ-loop
 loop-holds c = search needs
 
-in-order-requires : tie.Need-in-order-requires Inv-loop μ-loop
-in-order-requires c κs = search needs
-
 paper-at-requires : tie.Need-paper-at-requires Inv-loop μ-loop
 paper-at-requires c κs = search needs
 
@@ -42,7 +39,6 @@ whole-curve-spec =
     Inv-loop
     μ-loop
     loop-holds
-    in-order-requires
     paper-at-requires
     add-k
     loop-less

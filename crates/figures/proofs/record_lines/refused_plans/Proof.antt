@@ -17,8 +17,14 @@ loop-holds c = search needs
 refused-requires : tie.Need-refused-requires Inv-loop μ-loop
 refused-requires c κs = search needs
 
-refused-plan-requires : tie.Need-refused-plan-requires Inv-loop μ-loop
-refused-plan-requires c κs = search needs
+write-requires : tie.Need-write-requires Inv-loop μ-loop
+write-requires c κs = search needs
+
+refused-requires-2 : tie.Need-refused-requires-2 Inv-loop μ-loop
+refused-requires-2 c κs = search needs
+
+write-requires-2 : tie.Need-write-requires-2 Inv-loop μ-loop
+write-requires-2 c κs = search needs
 
 add-k : tie.Need-add-k Inv-loop μ-loop
 add-k c = search needs
@@ -40,7 +46,9 @@ refused-plans-spec =
     μ-loop
     loop-holds
     refused-requires
-    refused-plan-requires
+    write-requires
+    refused-requires-2
+    write-requires-2
     add-k
     loop-less
     loop-again

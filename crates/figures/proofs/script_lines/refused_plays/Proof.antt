@@ -17,8 +17,14 @@ loop-holds c = search needs
 refused-requires : tie.Need-refused-requires Inv-loop μ-loop
 refused-requires c κs = search needs
 
-plays-requires : tie.Need-plays-requires Inv-loop μ-loop
-plays-requires c κs = search needs
+play-requires : tie.Need-play-requires Inv-loop μ-loop
+play-requires c κs = search needs
+
+refused-requires-2 : tie.Need-refused-requires-2 Inv-loop μ-loop
+refused-requires-2 c κs = search needs
+
+play-requires-2 : tie.Need-play-requires-2 Inv-loop μ-loop
+play-requires-2 c κs = search needs
 
 add-k : tie.Need-add-k Inv-loop μ-loop
 add-k c = search needs
@@ -40,7 +46,9 @@ refused-plays-spec =
     μ-loop
     loop-holds
     refused-requires
-    plays-requires
+    play-requires
+    refused-requires-2
+    play-requires-2
     add-k
     loop-less
     loop-again

@@ -17,8 +17,14 @@ loop-holds c = search needs
 refused-requires : tie.Need-refused-requires Inv-loop μ-loop
 refused-requires c κs = search needs
 
-refused-script-requires : tie.Need-refused-script-requires Inv-loop μ-loop
-refused-script-requires c κs = search needs
+script-requires : tie.Need-script-requires Inv-loop μ-loop
+script-requires c κs = search needs
+
+refused-requires-2 : tie.Need-refused-requires-2 Inv-loop μ-loop
+refused-requires-2 c κs = search needs
+
+script-requires-2 : tie.Need-script-requires-2 Inv-loop μ-loop
+script-requires-2 c κs = search needs
 
 add-k : tie.Need-add-k Inv-loop μ-loop
 add-k c = search needs
@@ -40,7 +46,9 @@ refused-scripts-spec =
     μ-loop
     loop-holds
     refused-requires
-    refused-script-requires
+    script-requires
+    refused-requires-2
+    script-requires-2
     add-k
     loop-less
     loop-again
