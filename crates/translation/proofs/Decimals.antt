@@ -33,7 +33,7 @@ decimal-large (suc n) h =
     (ap (λ (front : List ℕ). front ++ (digit (suc n % 10) ∷ []))
     (steps-enough n (suc n / 10) (suc n / 10) (omega arith) (omega arith)))
 
-one-digit : (n : ℕ) → n < 10 → length (decimal n) ≤ 1
+pub one-digit : (n : ℕ) → n < 10 → length (decimal n) ≤ 1
 one-digit n h = omega (arith, ap length (decimal-small n h))
 
 -- ten times as many numbers have at most one digit more
@@ -50,7 +50,7 @@ one-more limit most fewer n h = by-size (ltb n 10) refl
         ap length (decimal-large n (ltb-false n 10 t)),
         length-append (decimal (n / 10)) (digit (n % 10) ∷ []))
 
-two-digits : (n : ℕ) → n < 100 → length (decimal n) ≤ 2
+pub two-digits : (n : ℕ) → n < 100 → length (decimal n) ≤ 2
 two-digits n h = one-more 10 1 one-digit n h
 
 pub three-digits : (n : ℕ) → n < 1000 → length (decimal n) ≤ 3

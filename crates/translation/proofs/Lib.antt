@@ -1,2 +1,6 @@
 pub mod Adding
 pub mod Decimals
+pub mod WriteLines
+pub mod Accepted
+pub mod Turns
+pub mod Bound

@@ -55,18 +55,22 @@ endLine plans = line (field "end " plans)
 abbrev pub tooLong : List ℕ
 tooLong = line (ascii "input too long")
 
--- how many bytes the record at the front uses: "13 or 18"
-abbrev pub usedBy : List ℕ → ℕ
-usedBy bytes = whenKnown (chipOf (chipIn bytes)) recordLength 0
+-- the record at the front of the bytes left: its refusal's number, 0 where it is accepted ..
+unfoldable pub refusalIn : List ℕ → ℕ
+refusalIn bytes = first (recordChecks bytes)
+
+-- .. and "the bytes used, 13 or 18"
+unfoldable pub usedIn : List ℕ → ℕ
+usedIn bytes = whenKnown (chipOf (chipIn bytes)) recordLength 0
 
 -- The text for the bytes that are left behind `plans` plans. An accepted record uses some of them, so a turn for each byte is enough.
 abbrev pub textFrom : ℕ → ℕ → List ℕ → List ℕ
 textFrom zero plans bytes = endLine plans
 textFrom (suc turns) plans bytes =
     cond (eqb (length bytes) 0) (endLine plans)
-    (cond (eqb (first (recordChecks bytes)) 0)
-    (planText (plans + 1) (planIn bytes) ++ textFrom turns (plans + 1) (drop (usedBy bytes) bytes))
-    (refusedLine (plans + 1) (first (recordChecks bytes))))
+    (cond (eqb (refusalIn bytes) 0)
+    (planText (plans + 1) (planIn bytes) ++ textFrom turns (plans + 1) (drop (usedIn bytes) bytes))
+    (refusedLine (plans + 1) (refusalIn bytes)))
 
 -- "The program reads plan records .., at most 4,096 bytes"
 unfoldable pub textOf : List ℕ → List ℕ

@@ -1,30 +1,30 @@
+-- `lines::end` meets its contract: the word and the number, then the newline.
+-- Assumes nothing.
+use Rattle.translation.specs.Text.{endLine}
+use Rattle.translation.proofs.Adding.{adds-then}
+use lib.ListN.{length-append}
+use native.Mathlib.Omega.{arith}
 use borrow.Author.Needs.{needs}
 use Rattle.translation.proofs.lines.end.Statement.{statement}
 use Rattle.translation.proofs.lines.end.Tie as tie
-use Rattle.translation.proofs.lines.end.Reads as reads
-use Rattle.translation.proofs.lines.end.Lts as lts
-use Rattle.translation.proofs.numbers.field.Reads as field-reads
-use Rattle.translation.proofs.output.put.Reads as put-reads
 
--- src/lines.rt:68:37
 slice-aggregate-field : tie.Need-slice-aggregate-field
 slice-aggregate-field c = search needs
 
--- src/lines.rt:68:9
 field-requires : tie.Need-field-requires
-field-requires c κs = ?
+unfolding endLine
+field-requires c κs = omega (arith, simp length-append at (c .before .before .before .pre))
 
--- src/lines.rt:69:5
 put-requires : tie.Need-put-requires
-put-requires c κs = ?
+unfolding endLine
+put-requires c κs = omega (arith, c .before .before .before .field .ensures .next, simp length-append at (c .before .before .before .before .before .before .before .pre))
 
--- src/lines.rt:64:1
 same-length : tie.Need-same-length
 same-length c = search needs
 
--- src/lines.rt:64:1
 returns : tie.Need-returns
-returns c = ?
+unfolding endLine
+returns c = adds-then (c .before .before .before .before .before .before .field .ensures) (c .before .before .put .ensures)
 
 pub end-spec : {M : Type 1} → statement M
 end-spec =

@@ -1,62 +1,62 @@
+-- `lines::writes` meets its contract: each turn adds the line of one pair.
+-- Assumes nothing.
+use Rattle.translation.proofs.WriteLines.{Shown, shown-none, shown-more, shown-all, shown-length}
+use Rattle.translation.proofs.Adding.{adds-length}
+use Prim.Native.Nat.{_-_}
+use native.Mathlib.Omega.{arith}
+use borrow.Author.Needs.{needs}
 use Rattle.translation.proofs.lines.writes.Statement.{statement}
 use Rattle.translation.proofs.lines.writes.Tie as tie
-use Rattle.translation.proofs.lines.writes.Reads as reads
-use Rattle.translation.proofs.lines.writes.Lts as lts
-use Rattle.translation.proofs.lines.write.Reads as write-reads
 
 abbrev Inv-loop : tie.InvT-loop
-Inv-loop out₀ at pairs count next₀ k₀ out next k = ?
+Inv-loop out₀ at pairs count next₀ k₀ out next k = Shown pairs out₀ out count at next k
 
 abbrev μ-loop : tie.MeasureT-loop
-μ-loop out₀ at pairs count next₀ k₀ out next k = ?
+μ-loop out₀ at pairs count next₀ k₀ out next k = count - k
 
--- src/lines.rt:49:5
 loop-holds : tie.Need-loop-holds Inv-loop μ-loop
-loop-holds c = ?
+loop-holds c = shown-none _ _ _ _
 
--- src/lines.rt:50:39
 mul-write : tie.Need-mul-write Inv-loop μ-loop
-mul-write c = ?
+mul-write c = omega (arith, c .before .loop-test .taken, c .before .before .before .before .before .pre .0)
 
--- src/lines.rt:50:33
 shared-slice-read-write : tie.Need-shared-slice-read-write Inv-loop μ-loop
-shared-slice-read-write c = ?
+shared-slice-read-write c = omega (arith, c .before .before .loop-test .taken, c .before .before .before .before .before .before .pre .0)
 
--- src/lines.rt:50:53
 mul-write-2 : tie.Need-mul-write-2 Inv-loop μ-loop
-mul-write-2 c = ?
+mul-write-2 c = omega (arith, c .before .before .loop-test .taken, c .before .before .before .before .before .before .pre .0)
 
--- src/lines.rt:50:53
 add-write : tie.Need-add-write Inv-loop μ-loop
-add-write c = ?
+add-write c = omega (arith, c .before .before .loop-test .taken, c .before .before .before .before .before .before .pre .0)
 
--- src/lines.rt:50:47
 shared-slice-read-write-2 : tie.Need-shared-slice-read-write-2 Inv-loop μ-loop
-shared-slice-read-write-2 c = ?
+shared-slice-read-write-2 c = omega (arith, c .before .before .before .loop-test .taken, c .before .before .before .before .before .before .before .pre .0)
 
--- src/lines.rt:50:9
 write-requires : tie.Need-write-requires Inv-loop μ-loop
-write-requires c κs = ?
+write-requires c κs = let start = c .before .before .before .before .before .before .before in
+    let loop = c .before .before .before .before .loop in
+    omega
+    (arith,
+    c .before .before .before .loop-test .taken,
+    loop .inv .front .next,
+    shown-length (loop .k) (start .args .pairs .now),
+    shown-length (start .args .count) (start .args .pairs .now),
+    start .pre .1)
 
--- src/lines.rt:49:9
 add-k : tie.Need-add-k Inv-loop μ-loop
-add-k c = ?
+add-k c = search needs
 
--- src/lines.rt:49:5
 loop-less : tie.Need-loop-less Inv-loop μ-loop
-loop-less c = ?
+loop-less c = search needs
 
--- src/lines.rt:49:5
 loop-again : tie.Need-loop-again Inv-loop μ-loop
-loop-again c = ?
+loop-again c = shown-more (c .before .before .before .before .before .before .before .loop .inv) (c .before .before .before .before .before .before .loop-test .taken) (c .before .before .write .ensures)
 
--- src/lines.rt:43:1
 same-length : tie.Need-same-length Inv-loop μ-loop
-same-length c = ?
+same-length c = adds-length (c .before .loop .inv .front)
 
--- src/lines.rt:43:1
 returns : tie.Need-returns Inv-loop μ-loop
-returns c = ?
+returns c = shown-all (c .before .loop .inv) (c .loop-test .left)
 
 pub writes-spec : {M : Type 1} → statement M
 writes-spec =
