@@ -62,17 +62,16 @@ refusal-short : (bytes : List ℕ) → refusalIn bytes < 10
 unfolding refusalIn
 refusal-short bytes = first-below 10 (recordChecks bytes) refl
 
-text-from-short : (turns plans : ℕ) (bytes : List ℕ) → 13 * plans + length bytes ≤ 4096 → length (textFrom turns plans bytes) ≤ 10 * length bytes + 19
+-- each plan used at least 13 bytes, so that its number has at most three digits
+abbrev Short : ℕ → ℕ → List ℕ → Type 0
+Short turns plans bytes = 13 * plans + length bytes ≤ 4096 → length (textFrom turns plans bytes) ≤ 10 * length bytes + 19
+
+pub text-from-short : (turns plans : ℕ) (bytes : List ℕ) → Short turns plans bytes
 text-from-short zero plans bytes h = omega (arith, end-short plans (omega arith))
 text-from-short (suc turns) plans bytes h =
-    by-left (eqb (length bytes) 0) (λ s. text-from-short turns (plans + 1) (drop (usedIn bytes) bytes) s)
+    by-left (text-from-short turns (plans + 1) (drop (usedIn bytes) bytes)) (eqb (length bytes) 0)
   where
-    abbrev More : Type 0
-    More =
-        13 * (plans + 1) + length (drop (usedIn bytes) bytes) ≤ 4096
-        → length (textFrom turns (plans + 1) (drop (usedIn bytes) bytes)) ≤ 10 * length (drop (usedIn bytes) bytes) + 19
-
-    by-check : More → (good : Bool) → eqb (refusalIn bytes) 0 ≡ good
+    by-check : Short turns (plans + 1) (drop (usedIn bytes) bytes) → (good : Bool) → eqb (refusalIn bytes) 0 ≡ good
         → length (cond good (planText (plans + 1) (planIn bytes) ++ textFrom turns (plans + 1) (drop (usedIn bytes) bytes)) (refusedLine (plans + 1) (refusalIn bytes)))
         ≤ 10 * length bytes + 19
     by-check go true t =
@@ -86,11 +85,11 @@ text-from-short (suc turns) plans bytes h =
         plan-short (plans + 1) bytes (omega arith) a)
     by-check go false t = omega (arith, refused-short (plans + 1) (refusalIn bytes) (omega arith) (refusal-short bytes))
 
-    by-left : (none : Bool) → More
+    by-left : Short turns (plans + 1) (drop (usedIn bytes) bytes) → (none : Bool)
         → length (cond none (endLine plans) (cond (eqb (refusalIn bytes) 0) (planText (plans + 1) (planIn bytes) ++ textFrom turns (plans + 1) (drop (usedIn bytes) bytes)) (refusedLine (plans + 1) (refusalIn bytes))))
         ≤ 10 * length bytes + 19
-    by-left true go = omega (arith, end-short plans (omega arith))
-    by-left false go = by-check go (eqb (refusalIn bytes) 0) refl
+    by-left go true = omega (arith, end-short plans (omega arith))
+    by-left go false = by-check go (eqb (refusalIn bytes) 0) refl
 
 pub text-short : (input : List ℕ) → length (textOf input) ≤ 40979
 unfolding textOf

@@ -4,3 +4,5 @@ pub mod WriteLines
 pub mod Accepted
 pub mod Turns
 pub mod Bound
+pub mod Planned
+pub mod Walked

@@ -1,51 +1,45 @@
+-- `plan_lines` meets its contract: the script is written, and the header and its lines are the plan's text.
+-- Assumes nothing.
+use Rattle.translation.proofs.Planned.{never-refused, count, header-within, writes-within, plan-added}
+use mathlib.Core.Path.{refl}
+use native.Mathlib.Omega.{arith}
 use borrow.Author.Needs.{needs}
 use Rattle.translation.proofs.plan_lines.Statement.{statement}
 use Rattle.translation.proofs.plan_lines.Tie as tie
-use Rattle.translation.proofs.plan_lines.Reads as reads
-use Rattle.translation.proofs.plan_lines.Lts as lts
-use Rattle.scripts.proofs.script.Reads as script-reads
-use Rattle.translation.proofs.lines.header.Reads as header-reads
-use Rattle.translation.proofs.lines.writes.Reads as writes-reads
 
--- src/lib.rt:28:54
 slice-aggregate-script : tie.Need-slice-aggregate-script
 slice-aggregate-script c = search needs
 
--- src/lib.rt:28:32
 script-requires : tie.Need-script-requires
 script-requires c κs = search needs
 
--- src/lib.rt:28:22
 enum-known-writes : tie.Need-enum-known-writes
 enum-known-writes c = search needs
 
--- src/lib.rt:29:9
 enum-told : tie.Need-enum-told
 enum-told c = search needs
 
--- src/lib.rt:29:9
 returns : tie.Need-returns
-returns c = ?
+returns c = absurd (never-refused (c .before .before .before .before .before .before .pre .0) refl (c .before .before .before .script .ensures) _ (c .enum-told .given .1))
 
--- src/lib.rt:31:9
 header-requires : tie.Need-header-requires
-header-requires c κs = ?
+header-requires c κs = header-within (c .before .before .before .before .before .before .before .before .pre .0) refl (c .before .before .before .before .before .script .ensures) _ (c .before .before .writes .given .1) _ _ (c .before .before .before .before .before .before .before .before .pre .1)
 
--- src/lib.rt:32:30
 slice-aggregate-writes : tie.Need-slice-aggregate-writes
 slice-aggregate-writes c = search needs
 
--- src/lib.rt:32:5
 writes-requires : tie.Need-writes-requires
-writes-requires c κs = ?
+writes-requires c κs = let start = c .before .before .before .before .before .before .before .before .before .before .before .before .before in
+    let script = c .before .before .before .before .before .before .before .before .before .before .script in
+    let told = c .before .before .before .before .before .before .before .writes .given .1 in
+    (omega (arith, count (start .pre .0) refl (script .ensures) _ told, start .pre .0 .writes, script .kept .1 .0),
+    writes-within (start .pre .0) refl (script .ensures) _ told _ _ (start .pre .1) (c .before .before .before .before .header .ensures .next))
 
--- src/lib.rt:22:1
 same-length : tie.Need-same-length
 same-length c = search needs
 
--- src/lib.rt:22:1
 returns-2 : tie.Need-returns-2
-returns-2 c = ?
+returns-2 c = plan-added (c .before .before .before .before .before .before .before .before .before .before .before .before .before .before .before .before .pre .0) refl (c .before .before .before .before .before .before .before .before .before .before .before .before .before .script .ensures) _ (c .before .before .before .before .before .before .before .before .before .before .writes .given .1) _ (c .before .before .before .before .before .before .before .header .ensures) (c .before .before .writes2 .ensures)
 
 pub plan-lines-spec : {M : Type 1} → statement M
 plan-lines-spec =

@@ -1,102 +1,83 @@
+-- `record_lines` meets its contract: each turn adds the text of one record, or ends the text at a refusal.
+-- Assumes nothing.
+use Rattle.translation.proofs.Walked.{Walked, walked-none, walked-more, plan-accepts, plan-within, next-within, refused-within, refused-added, end-within, end-added}
+use Rattle.translation.proofs.Adding.{adds-length}
+use lib.ListN.{length}
+use mathlib.Core.Path.{_∙_}
+use Prim.Native.Nat.{_-_}
+use native.Mathlib.Omega.{arith}
+use borrow.Author.Needs.{needs}
 use Rattle.translation.proofs.record_lines.Statement.{statement}
 use Rattle.translation.proofs.record_lines.Tie as tie
-use Rattle.translation.proofs.record_lines.Reads as reads
-use Rattle.translation.proofs.record_lines.Lts as lts
-use Rattle.records.proofs.read.Reads as read-reads
-use Rattle.refusal.proofs.number.Reads as number-reads
-use Rattle.translation.proofs.lines.end.Reads as end-reads
-use Rattle.translation.proofs.lines.refused.Reads as refused-reads
-use Rattle.translation.proofs.plan_lines.Reads as plan-lines-reads
 
 abbrev Inv-loop : tie.InvT-loop
-Inv-loop input out₀ at₀ from₀ plans₀ out at from plans = ?
+Inv-loop input out₀ at₀ from₀ plans₀ out at from plans = Walked input out₀ out at from plans
 
 abbrev μ-loop : tie.MeasureT-loop
-μ-loop input out₀ at₀ from₀ plans₀ out at from plans = ?
+μ-loop input out₀ at₀ from₀ plans₀ out at from plans = length input - from
 
--- src/lib.rt:43:5
 loop-holds : tie.Need-loop-holds Inv-loop μ-loop
-loop-holds c = ?
+loop-holds c = walked-none _ _
 
--- src/lib.rt:44:35
 sub-read : tie.Need-sub-read Inv-loop μ-loop
-sub-read c = ?
+sub-read c = search needs
 
--- src/lib.rt:44:35
 part-read-start : tie.Need-part-read-start Inv-loop μ-loop
-part-read-start c = ?
+part-read-start c = search needs
 
--- src/lib.rt:44:35
 part-read-end : tie.Need-part-read-end Inv-loop μ-loop
-part-read-end c = ?
+part-read-end c = search needs
 
--- src/lib.rt:44:13
 read-requires : tie.Need-read-requires Inv-loop μ-loop
-read-requires c κs = ?
+read-requires c κs = search needs
 
--- src/lib.rt:48:27
 enum-known-answer : tie.Need-enum-known-answer Inv-loop μ-loop
-enum-known-answer c = ?
+enum-known-answer c = search needs
 
--- src/lib.rt:48:70
 add-refused : tie.Need-add-refused Inv-loop μ-loop
-add-refused c = ?
+add-refused c = omega (arith, c .before .before .before .before .before .before .before .before .loop .inv .few, c .before .before .before .before .before .before .before .before .loop .inv .within, c .before .before .before .before .before .before .before .before .before .before .before .pre)
 
--- src/lib.rt:48:81
 number-requires : tie.Need-number-requires Inv-loop μ-loop
-number-requires c κs = ?
+number-requires c κs = search needs
 
--- src/lib.rt:48:39
 refused-requires : tie.Need-refused-requires Inv-loop μ-loop
-refused-requires c κs = ?
+refused-requires c κs = refused-within (c .before .before .before .before .before .before .before .before .before .before .before .before .pre) (c .before .before .before .before .before .before .before .before .before .loop .inv) (c .before .before .before .before .before .before .before .before .loop-test .taken) (c .before .before .before .before .before .before .read .ensures) _ (c .before .before .before .answer .given .1) (c .number .ensures .answer)
 
--- src/lib.rt:48:39
 same-length : tie.Need-same-length Inv-loop μ-loop
-same-length c = ?
+same-length c = adds-length (c .before .before .refused .ensures) ∙ adds-length (c .before .before .before .before .before .before .before .before .before .before .before .before .loop .inv .adds)
 
--- src/lib.rt:48:39
 returns : tie.Need-returns Inv-loop μ-loop
-returns c = ?
+returns c = refused-added (c .before .before .before .before .before .before .before .before .before .before .before .before .before .before .before .pre) (c .before .before .before .before .before .before .before .before .before .before .before .before .loop .inv) (c .before .before .before .before .before .before .before .before .before .before .before .loop-test .taken) (c .before .before .before .before .before .before .before .before .before .read .ensures) _ (c .before .before .before .before .before .before .answer .given .1) (c .before .before .before .number .ensures .answer) (c .before .before .refused .ensures)
 
--- src/lib.rt:49:25
 enum-known-answer-2 : tie.Need-enum-known-answer-2 Inv-loop μ-loop
-enum-known-answer-2 c = ?
+enum-known-answer-2 c = search needs
 
--- src/lib.rt:50:42
 add-plan-lines : tie.Need-add-plan-lines Inv-loop μ-loop
-add-plan-lines c = ?
+add-plan-lines c = omega (arith, c .before .before .before .before .before .before .before .before .loop .inv .few, c .before .before .before .before .before .before .before .before .loop .inv .within, c .before .before .before .before .before .before .before .before .before .before .before .pre)
 
--- src/lib.rt:50:17
 plan-lines-requires : tie.Need-plan-lines-requires Inv-loop μ-loop
-plan-lines-requires c κs = ?
+plan-lines-requires c κs = (plan-accepts (c .before .before .before .before .before .before .before .before .before .before .before .pre) (c .before .before .before .before .before .before .before .before .loop .inv) (c .before .before .before .before .before .before .before .loop-test .taken) (c .before .before .before .before .before .read .ensures) _ (c .before .before .answer2 .given .1), plan-within (c .before .before .before .before .before .before .before .before .before .before .before .pre) (c .before .before .before .before .before .before .before .before .loop .inv) (c .before .before .before .before .before .before .before .loop-test .taken) (c .before .before .before .before .before .read .ensures) _ (c .before .before .answer2 .given .1))
 
--- src/lib.rt:51:17
 add-from : tie.Need-add-from Inv-loop μ-loop
-add-from c = ?
+add-from c = omega (arith, next-within (c .before .before .before .before .before .before .before .before .before .before .before .before .before .before .pre) (c .before .before .before .before .before .before .before .before .before .before .before .loop .inv) (c .before .before .before .before .before .before .before .before .before .before .loop-test .taken) (c .before .before .before .before .before .before .before .before .read .ensures) _ (c .before .before .before .before .before .answer2 .given .1) .0, c .before .before .before .before .before .before .before .before .before .before .before .before .before .before .pre)
 
--- src/lib.rt:52:17
 add-plans : tie.Need-add-plans Inv-loop μ-loop
-add-plans c = ?
+add-plans c = omega (arith, c .before .before .before .before .before .before .before .before .before .before .before .loop .inv .few, c .before .before .before .before .before .before .before .before .before .before .before .loop .inv .within, c .before .before .before .before .before .before .before .before .before .before .before .before .before .before .pre)
 
--- src/lib.rt:43:5
 loop-less : tie.Need-loop-less Inv-loop μ-loop
-loop-less c = ?
+loop-less c = let next = next-within (c .before .before .before .before .before .before .before .before .before .before .before .before .before .before .pre) (c .before .before .before .before .before .before .before .before .before .before .before .loop .inv) (c .before .before .before .before .before .before .before .before .before .before .loop-test .taken) (c .before .before .before .before .before .before .before .before .read .ensures) _ (c .before .before .before .before .before .answer2 .given .1) in omega (arith, next .0, next .1)
 
--- src/lib.rt:43:5
 loop-again : tie.Need-loop-again Inv-loop μ-loop
-loop-again c = ?
+loop-again c = walked-more (c .before .before .before .before .before .before .before .before .before .before .before .before .before .before .pre) (c .before .before .before .before .before .before .before .before .before .before .before .loop .inv) (c .before .before .before .before .before .before .before .before .before .before .loop-test .taken) (c .before .before .before .before .before .before .before .before .read .ensures) _ (c .before .before .before .before .before .answer2 .given .1) (c .before .before .plan-lines .ensures)
 
--- src/lib.rt:56:5
 end-requires : tie.Need-end-requires Inv-loop μ-loop
-end-requires c κs = ?
+end-requires c κs = end-within (c .before .before .before .before .before .pre) (c .before .before .loop .inv) (c .before .loop-test .left)
 
--- src/lib.rt:36:1
 same-length-2 : tie.Need-same-length-2 Inv-loop μ-loop
-same-length-2 c = ?
+same-length-2 c = adds-length (c .before .before .end .ensures) ∙ adds-length (c .before .before .before .before .before .loop .inv .adds)
 
--- src/lib.rt:36:1
 returns-2 : tie.Need-returns-2 Inv-loop μ-loop
-returns-2 c = ?
+returns-2 c = end-added (c .before .before .before .before .before .before .before .before .pre) (c .before .before .before .before .before .loop .inv) (c .before .before .before .before .loop-test .left) (c .before .before .end .ensures)
 
 pub record-lines-spec : {M : Type 1} → statement M
 record-lines-spec =
