@@ -35,12 +35,13 @@ header-short number chip table writes h c t w =
 plan-short : (number : ℕ) (bytes : List ℕ) {used : ℕ} {plan : Plan} → number < 1000 → Accepted bytes used plan → length (planText number plan) ≤ 10 * used
 unfolding planText
 plan-short number bytes {used} {plan} h a =
-    omega
-    (arith,
-    length-append (headerLine number (plan .chip) (plan .table) (length (scriptFor plan))) (writeLines (scriptFor plan)),
-    header-short number (plan .chip) (plan .table) (length (scriptFor plan)) h (a .chip) (a .table) (omega (arith, a .accepts .writes)),
-    lines-length (scriptFor plan),
-    a .short)
+    omega (
+      arith,
+      length-append (headerLine number (plan .chip) (plan .table) (length (scriptFor plan))) (writeLines (scriptFor plan)),
+      header-short number (plan .chip) (plan .table) (length (scriptFor plan)) h (a .chip) (a .table) (omega (arith, a .accepts .writes)),
+      lines-length (scriptFor plan),
+      a .short,
+    )
 
 -- the first of some checks whose numbers lie below a limit
 abbrev below : ℕ → List Check → Bool
@@ -78,11 +79,12 @@ text-from-short (suc turns) plans bytes h =
         let a = accepted bytes (eqb-true (refusalIn bytes) 0 t) in
         let left = length-drop (usedIn bytes) bytes in
         let more = go (omega (arith, a .whole, a .least)) in
-        omega
-        (arith,
-        a .whole,
-        length-append (planText (plans + 1) (planIn bytes)) (textFrom turns (plans + 1) (drop (usedIn bytes) bytes)),
-        plan-short (plans + 1) bytes (omega arith) a)
+        omega (
+          arith,
+          a .whole,
+          length-append (planText (plans + 1) (planIn bytes)) (textFrom turns (plans + 1) (drop (usedIn bytes) bytes)),
+          plan-short (plans + 1) bytes (omega arith) a,
+        )
     by-check go false t = omega (arith, refused-short (plans + 1) (refusalIn bytes) (omega arith) (refusal-short bytes))
 
     by-left : Short turns (plans + 1) (drop (usedIn bytes) bytes) → (none : Bool)

@@ -44,11 +44,12 @@ one-more limit most fewer n h = by-size (ltb n 10) refl
     by-size true t = omega (arith, one-digit n (ltb-true n 10 t))
     by-size false t =
         let front = fewer (n / 10) (omega arith) in
-        omega
-        (arith,
-        front,
-        ap length (decimal-large n (ltb-false n 10 t)),
-        length-append (decimal (n / 10)) (digit (n % 10) ∷ []))
+        omega (
+          arith,
+          front,
+          ap length (decimal-large n (ltb-false n 10 t)),
+          length-append (decimal (n / 10)) (digit (n % 10) ∷ []),
+        )
 
 pub two-digits : (n : ℕ) → n < 100 → length (decimal n) ≤ 2
 two-digits n h = one-more 10 1 one-digit n h

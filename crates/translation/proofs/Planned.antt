@@ -59,11 +59,12 @@ module _ {plan : Plan} {old bytes : List ℕ} {r : Made} (a : Accepts plan) (roo
     module _ (at number : ℕ) (w : Within at (planText number plan)) where
       long : at + (length (headerLine number (plan .chip) (plan .table) n) + length (writeLines (pairsIn n bytes))) ≤ 65536
       long =
-          omega
-          (arith,
-          w,
-          ap length (whole number),
-          length-append (headerLine number (plan .chip) (plan .table) n) (writeLines (pairsIn n bytes)))
+          omega (
+            arith,
+            w,
+            ap length (whole number),
+            length-append (headerLine number (plan .chip) (plan .table) n) (writeLines (pairsIn n bytes)),
+          )
 
       pub header-within : Within at (headerLine number (plan .chip) (plan .table) n)
       header-within = omega (arith, long)

@@ -59,14 +59,15 @@ module _ {input old out : List ℕ} {at from plans : ℕ} (short : length input 
   -- there is room for whatever the text goes on with
   room : (front back : List ℕ) → rest plans (drop from input) ≡ front ++ back → Within at front
   room front back e =
-      omega
-      (arith,
-      w .adds .next,
-      length-append (w .made) (rest plans (drop from input)),
-      ap length (w .text),
-      ap length e,
-      length-append front back,
-      text-from-short (length input) 0 input (omega arith))
+      omega (
+        arith,
+        w .adds .next,
+        length-append (w .made) (rest plans (drop from input)),
+        ap length (w .text),
+        ap length e,
+        length-append front back,
+        text-from-short (length input) 0 input (omega arith),
+      )
 
   last-room : (last : List ℕ) → rest plans (drop from input) ≡ last → Within at last
   last-room last e = room last [] (e ∙ sym (append-nil last))

@@ -45,7 +45,12 @@ fn record_lines(input: &[u8], out: &mut [u8]) -> usize
         let answer = found.answer;
         let plan = found.plan;
         match answer {
-            Used::Refused(refusal) => return lines::refused(out, at, plans + 1, refusal::number(refusal)),
+            Used::Refused(refusal) => return lines::refused(
+                out,
+                at,
+                plans + 1,
+                refusal::number(refusal),
+            ),
             Used::Bytes(used) => {
                 at = plan_lines(out, at, plans + 1, plan);
                 from += used;

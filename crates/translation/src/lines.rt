@@ -35,7 +35,14 @@ fn write(out: &mut [u8], at: usize, address: u8, byte: u8) -> usize
     requires { ⌜ Within at (writeLine (address, byte)) ⌝ }
     ensures { λ r. ⌜ Adds (writeLine (address, byte)) (now (out .entry)) at r (now (out .exit)) ⌝ }
 {
-    let line = [high(address), low(address), b' ', high(byte), low(byte), b'\n'];
+    let line = [
+        high(address),
+        low(address),
+        b' ',
+        high(byte),
+        low(byte),
+        b'\n',
+    ];
     output::append(out, at, &line)
 }
 

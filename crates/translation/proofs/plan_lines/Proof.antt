@@ -31,9 +31,10 @@ slice-aggregate-writes c = search needs
 writes-requires : tie.Need-writes-requires
 writes-requires c κs = let start = c .before .before .before .before .before .before .before .before .before .before .before .before .before in
     let script = c .before .before .before .before .before .before .before .before .before .before .script in
-    let told = c .before .before .before .before .before .before .before .writes .given .1 in
-    (omega (arith, count (start .pre .0) refl (script .ensures) _ told, start .pre .0 .writes, script .kept .1 .0),
-    writes-within (start .pre .0) refl (script .ensures) _ told _ _ (start .pre .1) (c .before .before .before .before .header .ensures .next))
+    let told = c .before .before .before .before .before .before .before .writes .given .1 in (
+      omega (arith, count (start .pre .0) refl (script .ensures) _ told, start .pre .0 .writes, script .kept .1 .0),
+      writes-within (start .pre .0) refl (script .ensures) _ told _ _ (start .pre .1) (c .before .before .before .before .header .ensures .next),
+    )
 
 same-length : tie.Need-same-length
 same-length c = search needs

@@ -1,33 +1,28 @@
+-- `translate` meets its contract: the length measured first decides whether the text is written.
+-- Assumes nothing.
+use Rattle.translation.proofs.Answers.{cramped, translated}
+use native.Mathlib.Omega.{arith}
 use borrow.Author.Needs.{needs}
 use Rattle.translation.proofs.translate.Statement.{statement}
 use Rattle.translation.proofs.translate.Tie as tie
-use Rattle.translation.proofs.translate.Reads as reads
-use Rattle.translation.proofs.translate.Lts as lts
-use Rattle.translation.proofs.all_lines.Reads as all-lines-reads
 
--- src/lib.rt:73:35
 slice-aggregate-all-lines : tie.Need-slice-aggregate-all-lines
 slice-aggregate-all-lines c = search needs
 
--- src/lib.rt:73:9
 all-lines-requires : tie.Need-all-lines-requires
 all-lines-requires c κs = search needs
 
--- src/lib.rt:75:9
 returns : tie.Need-returns
-returns c = ?
+returns c = cramped _ _ (omega (arith, c .if1 .taken, c .before .before .all-lines .ensures .next))
 
--- src/lib.rt:77:17
 all-lines-requires-2 : tie.Need-all-lines-requires-2
 all-lines-requires-2 c κs = search needs
 
--- src/lib.rt:69:1
 same-length : tie.Need-same-length
 same-length c = search needs
 
--- src/lib.rt:69:1
 returns-2 : tie.Need-returns-2
-returns-2 c = ?
+returns-2 c = translated _ _ (omega (arith, c .before .before .before .before .if1 .left, c .before .before .before .before .before .before .all-lines .ensures .next)) (c .before .before .all-lines2 .ensures)
 
 pub translate-spec : {M : Type 1} → statement M
 translate-spec =

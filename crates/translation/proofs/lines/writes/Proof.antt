@@ -35,13 +35,14 @@ shared-slice-read-write-2 c = omega (arith, c .before .before .before .loop-test
 write-requires : tie.Need-write-requires Inv-loop μ-loop
 write-requires c κs = let start = c .before .before .before .before .before .before .before in
     let loop = c .before .before .before .before .loop in
-    omega
-    (arith,
-    c .before .before .before .loop-test .taken,
-    loop .inv .front .next,
-    shown-length (loop .k) (start .args .pairs .now),
-    shown-length (start .args .count) (start .args .pairs .now),
-    start .pre .1)
+    omega (
+      arith,
+      c .before .before .before .loop-test .taken,
+      loop .inv .front .next,
+      shown-length (loop .k) (start .args .pairs .now),
+      shown-length (start .args .count) (start .args .pairs .now),
+      start .pre .1,
+    )
 
 add-k : tie.Need-add-k Inv-loop μ-loop
 add-k c = search needs
