@@ -1,0 +1,57 @@
+// Translates plan records on standard input to the text of their scripts on standard output. What the text is, the crate `translation` says.
+use libc::STDERR_FILENO;
+use libc::STDIN_FILENO;
+use libc::STDOUT_FILENO;
+use translation::Text;
+
+enum Input {
+    Bytes(usize),
+    Failed,
+}
+
+// Fills the buffer until the input ends or the buffer is full, however the bytes arrive.
+fn read_all(buffer: &mut [u8]) -> Input {
+    let mut filled = 0;
+    while filled < buffer.len() {
+        let got = libc::read(STDIN_FILENO, &mut buffer[filled..]);
+        if got < 0 {
+            return Input::Failed;
+        }
+        let more = io::count(got, &buffer[filled..]);
+        if more == 0 {
+            return Input::Bytes(filled);
+        }
+        filled += more;
+    }
+    Input::Bytes(filled)
+}
+
+fn say(words: &[u8]) {
+    io::write_all(STDERR_FILENO, words);
+}
+
+// Every text fits the buffer, so no input is refused.
+fn translated(input: &[u8]) {
+    let mut text = [0u8; 40979];
+    match translation::translate(input, &mut text) {
+        Text::Refused(refusal) => {
+            say(b"translate: refused ");
+            io::print_decimal(STDERR_FILENO, refusal::number(refusal) as u64);
+            say(b"\n");
+        }
+        Text::Bytes(length) => {
+            if !io::write_all(STDOUT_FILENO, &text[..length]) {
+                say(b"translate: standard output cannot be written\n");
+            }
+        }
+    }
+}
+
+// One byte more than the longest input tells that an input is too long.
+fn main() {
+    let mut input = [0u8; 4097];
+    match read_all(&mut input) {
+        Input::Failed => say(b"translate: standard input cannot be read\n"),
+        Input::Bytes(length) => translated(&input[..length]),
+    }
+}

@@ -1,0 +1,38 @@
+-- What each answer of `translate` knows is what its contract asks: the text's length, and the text at the buffer's front where it fits.
+-- Assumes nothing.
+use Prim.Native.Nat.{ℕ, _≤_, _<_}
+use native.Mathlib.Nat.{zero-add}
+use mathlib.Core.Path.{_≡_, refl, sym, ap, _∙_}
+use mathlib.Core.List.{List, _++_}
+use borrow.Author.Tests.{lt-ltb, le-ltb}
+use lib.ListN.{length, drop}
+use lib.Seq.{sets-eq}
+use Rattle.refusal.specs.declared.Refusal.the-variants.{OutputTooShort}
+use Rattle.translation.specs.declared.Text.the-variants as answer
+use Rattle.translation.specs.Text.{tooLong, textFrom, textOf, Translates}
+use Rattle.translation.specs.Parts.{Adds}
+
+pub text-too-long : (input : List ℕ) → 4096 < length input → tooLong ≡ textOf input
+unfolding textOf
+text-too-long input h = rw (lt-ltb 4096 (length input) h)
+
+pub text-read : (input : List ℕ) → length input ≤ 4096 → textFrom (length input) 0 input ≡ textOf input
+unfolding textOf
+text-read input h = rw (le-ltb 4096 (length input) h)
+
+pub cramped : (input old : List ℕ) → length old < length (textOf input) → Translates input old (answer.Refused OutputTooShort) old
+cramped input old h =
+    let short = lt-ltb (length old) (length (textOf input)) h in
+    record { answer = rw short; bytes = rw short }
+
+pub translated : (input old : List ℕ) {r : ℕ} {new : List ℕ} → length (textOf input) ≤ length old → Adds (textOf input) old 0 r new
+    → Translates input old (answer.Bytes r) new
+translated input old {r} {new} h a =
+    let text = textOf input in
+    let room = le-ltb (length old) (length (textOf input)) h in
+    let length-added : r ≡ length (textOf input) = a .next ∙ zero-add (length (textOf input)) in
+    let placed : new ≡ textOf input ++ drop (length (textOf input)) old =
+    a .bytes
+    ∙ sets-eq text old 0 (rw (zero-add (length text)) h)
+    ∙ ap (λ (n : ℕ). text ++ drop n old) (zero-add (length text)) in
+    record { answer = rw room (ap (λ (n : ℕ). (0, n)) length-added); bytes = rw room placed }

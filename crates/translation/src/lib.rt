@@ -1,0 +1,83 @@
+// The text of an input of plan records: a header and the script of each plan.
+mod lines;
+mod numbers;
+mod output;
+
+use plans::Plan;
+use records::Used;
+use refusal::Refusal;
+use scripts::Made;
+ghost use Prim.Native.Nat.{_≤_};
+ghost use lib.ListN.{length};
+ghost use Rattle.translation.specs.Text.{planText, textFrom, textOf, Translates};
+ghost use Rattle.translation.specs.Parts.{Within, Adds, Accepts};
+
+// How many bytes a text has.
+pub enum Text {
+    Bytes(usize),
+    Refused(Refusal),
+}
+
+// An accepted plan's header and script. No script has more than 24 writes, so 48 bytes hold each, and none is refused.
+fn plan_lines(out: &mut [u8], at: usize, number: usize, plan: Plan) -> usize
+    requires { ⌜ Accepts plan ⌝ }
+    requires { ⌜ Within at (planText number plan) ⌝ }
+    ensures { λ r. ⌜ Adds (planText number plan) (now (out .entry)) at r (now (out .exit)) ⌝ }
+{
+    let mut pairs = [0u8; 48];
+    let Made::Writes(writes) = scripts::script(plan, &mut pairs) else {
+        return at;
+    };
+    let next = lines::header(out, at, number, plan.chip, plan.table, writes);
+    lines::writes(out, next, &pairs, writes)
+}
+
+// The lines of the records in at most 4,096 bytes.
+fn record_lines(input: &[u8], out: &mut [u8]) -> usize
+    requires { ⌜ length (now input) ≤ 4096 ⌝ }
+    ensures { λ r. ⌜ Adds (textFrom (length (now (input .entry))) 0 (now (input .entry))) (now (out .entry)) 0 r (now (out .exit)) ⌝ }
+{
+    let mut at = 0;
+    let mut from = 0;
+    let mut plans = 0;
+    while from < input.len() {
+        let found = records::read(&input[from..]);
+        let answer = found.answer;
+        let plan = found.plan;
+        match answer {
+            Used::Refused(refusal) => return lines::refused(
+                out,
+                at,
+                plans + 1,
+                refusal::number(refusal),
+            ),
+            Used::Bytes(used) => {
+                at = plan_lines(out, at, plans + 1, plan);
+                from += used;
+                plans += 1;
+            }
+        }
+    }
+    lines::end(out, at, plans)
+}
+
+fn all_lines(input: &[u8], out: &mut [u8]) -> usize
+    ensures { λ r. ⌜ Adds (textOf (now (input .entry))) (now (out .entry)) 0 r (now (out .exit)) ⌝ }
+{
+    if 4096 < input.len() {
+        return output::append(out, 0, b"input too long\n");
+    }
+    record_lines(input, out)
+}
+
+// Writes the text of an input to the front of the buffer, and answers its length. It is measured first, by a walk over a buffer without a byte.
+pub fn translate(input: &[u8], out: &mut [u8]) -> Text
+    ensures { λ r. ⌜ Translates (now (input .entry)) (now (out .entry)) r (now (out .exit)) ⌝ }
+{
+    let mut nowhere = [0u8; 0];
+    let length = all_lines(input, &mut nowhere);
+    if out.len() < length {
+        return Text::Refused(Refusal::OutputTooShort);
+    }
+    Text::Bytes(all_lines(input, out))
+}
