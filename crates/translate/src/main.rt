@@ -3,6 +3,7 @@ use libc::STDERR_FILENO;
 use libc::STDIN_FILENO;
 use libc::STDOUT_FILENO;
 use translation::Text;
+ghost use Rattle.translate.specs.Inputs.{Holds};
 
 enum Input {
     Bytes(usize),
@@ -10,7 +11,9 @@ enum Input {
 }
 
 // Fills the buffer until the input ends or the buffer is full, however the bytes arrive.
-fn read_all(buffer: &mut [u8]) -> Input {
+fn read_all(buffer: &mut [u8]) -> Input
+    ensures { λ r. ⌜ Holds (now (buffer .exit)) r ⌝ }
+{
     let mut filled = 0;
     while filled < buffer.len() {
         let got = libc::read(STDIN_FILENO, &mut buffer[filled..]);

@@ -2,15 +2,21 @@
 -- Assumes nothing.
 use Prim.Native.Nat.{ℕ, _≤_, _<_}
 use native.Mathlib.Nat.{zero-add}
+use native.Mathlib.Omega.{arith}
 use mathlib.Core.Path.{_≡_, refl, sym, ap, _∙_}
+use mathlib.Core.Bool.{Bool, true, false, cond}
 use mathlib.Core.List.{List, _++_}
-use borrow.Author.Tests.{lt-ltb, le-ltb}
+use borrow.Author.Tests.{ltb-false, lt-ltb, le-ltb}
+use lib.Dec.{eqb, ltb}
 use lib.ListN.{length, drop}
 use lib.Seq.{sets-eq}
 use Rattle.refusal.specs.declared.Refusal.the-variants.{OutputTooShort}
+use Rattle.translation.specs.declared.Text.{Text}
 use Rattle.translation.specs.declared.Text.the-variants as answer
-use Rattle.translation.specs.Text.{tooLong, textFrom, textOf, Translates}
+use Rattle.translation.specs.Text.{tooLong, textFrom, textOf, tells, Translates}
 use Rattle.translation.specs.Parts.{Adds}
+use Rattle.translation.proofs.Bound.{text-short}
+use Rattle.translation.proofs.Unique.{translates-unique}
 
 pub text-too-long : (input : List ℕ) → 4096 < length input → tooLong ≡ textOf input
 unfolding textOf
@@ -36,3 +42,19 @@ translated input old {r} {new} h a =
     ∙ sets-eq text old 0 (rw (zero-add (length text)) h)
     ∙ ap (λ (n : ℕ). text ++ drop n old) (zero-add (length text)) in
     record { answer = rw room (ap (λ (n : ℕ). (0, n)) length-added); bytes = rw room placed }
+
+-- what is written lies within the buffer
+pub answer-within : {input old : List ℕ} {r : Text} {n : ℕ} {new : List ℕ} → Translates input old r new → r ≡ answer.Bytes n → n ≤ length old
+answer-within {input} {old} {r} {n} t q =
+    by-room (ltb (length old) (length (textOf input))) refl (ap (λ (a : ℕ × ℕ). a .1) (sym (ap tells q) ∙ t .answer))
+  where
+    by-room : (short : Bool) → ltb (length old) (length (textOf input)) ≡ short
+        → n ≡ cond (eqb (cond short 9 0) 0) (length (textOf input)) 0 → n ≤ length old
+    by-room true s e = omega arith
+    by-room false s e = omega (arith, ltb-false (length old) (length (textOf input)) s)
+
+-- a buffer of 40,979 bytes takes the text of any input
+pub always-written : {input old : List ℕ} {r : Text} {new : List ℕ} → 40979 ≤ length old → Translates input old r new
+    → r ≡ answer.Bytes (length (textOf input))
+always-written {input} {old} {r} {new} h t =
+    translates-unique t (translated input old (omega (arith, text-short input)) (record { next = sym (zero-add (length (textOf input))); bytes = refl })) .0

@@ -6,5 +6,5 @@ pub mod Turns
 pub mod Bound
 pub mod Planned
 pub mod Walked
-pub mod Answers
 pub mod Unique
+pub mod Answers

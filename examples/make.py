@@ -1,0 +1,83 @@
+#!/usr/bin/env python3
+"""Writes the plan records of this folder and the text that each must give, from the rules alone: NAME.plan and NAME.txt."""
+import os
+
+HERE = os.path.dirname(os.path.abspath(__file__))
+MARK = [0x43, 0x50]
+
+# Where each chip's fan tables begin.
+BASES = {1: {1: 0x80, 2: 0x90, 3: 0xA0}, 2: {1: 0xA0, 2: 0xB0}}
+
+
+def halves(counts):
+    return [byte for count in counts for byte in (count >> 8, count & 0xFF)]
+
+
+def record(chip, table, settings, speeds):
+    """Chip 1: T1 to T4 and critical, then FL1 to FL4. Chip 2: B1 to B4, then C1 to C5, high byte first."""
+    body = settings + (halves(speeds) if chip == 2 else speeds)
+    return MARK + [chip, table] + body
+
+
+def text(number, chip, table, settings, speeds):
+    """Raise every speed, move every setting, settle every speed."""
+    full, speeds = (0x00, halves(speeds)) if chip == 2 else (0xFF, speeds)
+    base = BASES[chip][table]
+    first = base + len(settings)
+    writes = [(first + k, full) for k in range(len(speeds))]
+    writes += [(base + k, byte) for k, byte in enumerate(settings)]
+    writes += [(first + k, byte) for k, byte in enumerate(speeds)]
+    lines = ['plan %d chip %d table %d writes %d' % (number, chip, table, len(writes))]
+    return lines + ['%02X %02X' % write for write in writes]
+
+
+def accepted(plans):
+    """The records of plans that are accepted, and their lines."""
+    given = [byte for plan in plans for byte in record(*plan)]
+    return given, [line for k, plan in enumerate(plans) for line in text(k + 1, *plan)]
+
+
+def write(name, given, lines):
+    with open(os.path.join(HERE, name + '.plan'), 'wb') as f:
+        f.write(bytes(given))
+    with open(os.path.join(HERE, name + '.txt'), 'w') as f:
+        f.write(''.join(line + '\n' for line in lines))
+
+
+def whole(name, plans):
+    given, lines = accepted(plans)
+    write(name, given, lines + ['end %d' % len(plans)])
+
+
+def refused(name, plans, number, bad):
+    given, lines = accepted(plans)
+    write(name, given + bad, lines + ['plan %d refused %d' % (len(plans) + 1, number)])
+
+
+# The plan of the rules paper, and one for each other table.
+PAPER = (1, 3, [30, 40, 50, 55, 60], [140, 170, 200, 230])
+COLD = (1, 1, [256 - 20, 256 - 5, 0, 10, 127], [0, 0, 128, 255])
+MILD = (1, 2, [20, 35, 50, 65, 65], [60, 60, 60, 60])
+FAN_1 = (2, 1, [60, 50, 40, 30], [0x01FF, 0x0200, 0x0300, 0x0800, 0xFFFF])
+FAN_2 = (2, 2, [80, 70, 45, 0], [0, 0, 1000, 1000, 65535])
+
+whole('chip-1', [PAPER])
+whole('chip-2', [FAN_1])
+whole('several', [COLD, FAN_2, MILD, PAPER, FAN_1])
+whole('empty', [])
+
+refused('refused-1', [PAPER], 1, MARK + [1])
+refused('refused-2', [], 2, [0x43, 0x51, 1, 3])
+refused('refused-3', [], 3, MARK + [4, 1])
+refused('refused-4', [], 4, MARK + [3, 1])
+refused('refused-5', [FAN_2], 5, record(*PAPER)[:-1])
+refused('refused-6', [], 6, record(1, 1, [30, 40, 40, 55, 60], [140, 170, 200, 230]))
+refused('refused-7', [], 7, record(2, 1, [60, 50, 40, 30], [512, 511, 768, 2048, 65535]))
+
+# 216 records of 18 bytes and 16 of 13 are 4,096 bytes; one byte more is too long.
+FULL = [FAN_1] * 216 + [PAPER] * 16
+whole('full', FULL)
+write('too-long', accepted(FULL)[0] + [0x43], ['input too long'])
+
+# The longest text of all: 226 records of 18 bytes and 2 of 13 leave 2 bytes.
+refused('longest-text', [FAN_1] * 226 + [PAPER] * 2, 1, MARK)
