@@ -2,6 +2,7 @@
 use watch::Behaviour;
 use watch::Watch;
 ghost use mathlib.Core.Path.{_≡_};
+ghost use Prim.Native.Nat.{_≤_, _<_};
 ghost use Rattle.clib.specs.Facts.{bit, behaviourOf, watchOf, factsOf};
 
 pub fn behaviour_of(number: u8) -> Behaviour
@@ -26,6 +27,7 @@ pub fn watch_of(behaviour: u8, facts: u8) -> Watch
 
 fn bit(fact: bool) -> u64
     ensures { λ r. ⌜ r ≡ bit fact ⌝ }
+    ensures { λ r. ⌜ r ≤ 1 ⌝ }
 {
     if fact { 1 } else { 0 }
 }
@@ -33,6 +35,7 @@ fn bit(fact: bool) -> u64
 // The facts of a watch, and what its output shows.
 pub fn facts_of(watch: Watch) -> u64
     ensures { λ r. ⌜ r ≡ factsOf watch ⌝ }
+    ensures { λ r. ⌜ r < 8 ⌝ }
 {
     let hot = bit(watch.hot);
     let pending = bit(watch.pending);

@@ -1,0 +1,3 @@
+pub mod Within
+pub mod Found
+pub mod Unique
