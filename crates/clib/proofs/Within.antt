@@ -1,17 +1,20 @@
 -- What a call answers beside its refusal number is small: no record has more than 18 bytes, and no script more than 25 writes.
 -- Assumes nothing.
-use Prim.Native.Nat.{ℕ, zero, suc, _+_, _≤_, _<_, zero-le}
+use Prim.Native.Nat.{ℕ, zero, suc, _+_, _-_, _≤_, _<_, zero-le}
 use native.Mathlib.Omega.{arith}
 use mathlib.Core.Path.{_≡_, refl, sym, ap, subst, _∙_}
 use mathlib.Core.Bool.{Bool, true, false, cond}
 use mathlib.Core.List.{List, [], _∷_, _++_}
 use lib.Dec.{eqb}
-use lib.ListN.{length, length-append}
+use lib.ListN.{length, getD, length-append}
 use Rattle.refusal.specs.Checks.{Check, first, told}
 use Rattle.cards.specs.declared.Chip.{Chip}
 use Rattle.cards.specs.declared.Chip.the-variants.{Nct7802y, F75373s, Nct80}
 use Rattle.cards.specs.declared.Named.{Named}
 use Rattle.cards.specs.declared.Named.the-variants.{Known, Unknown}
+use Rattle.cards.specs.Rows.{Table}
+use Rattle.cards.specs.Nct7802y as nct7802y
+use Rattle.cards.specs.F75373s as f75373s
 use Rattle.cards.specs.Cards.{chipOf, whenKnown, tableOf}
 use Rattle.plans.specs.declared.Plan.{Plan}
 use Rattle.plans.specs.Curves.{points, words}
@@ -62,29 +65,22 @@ points-short [] bytes = omega arith
 points-short (r ∷ rs) [] = omega arith
 points-short (r ∷ rs) (b ∷ bs) = omega (arith, points-short rs bs)
 
-settings-short : (chip : Chip) (number : ℕ) → length (tableOf chip number .settings) ≤ 5
-settings-short Nct7802y zero = omega arith
-settings-short Nct7802y (suc zero) = omega arith
-settings-short Nct7802y (suc (suc zero)) = omega arith
-settings-short Nct7802y (suc (suc (suc zero))) = omega arith
-settings-short Nct7802y (suc (suc (suc (suc n)))) = omega arith
-settings-short F75373s zero = omega arith
-settings-short F75373s (suc zero) = omega arith
-settings-short F75373s (suc (suc zero)) = omega arith
-settings-short F75373s (suc (suc (suc n))) = omega arith
-settings-short Nct80 n = omega arith
+-- each of some tables has at most five settings and ten speeds, and so has the one of any number
+abbrev Short : List Table → Type 0
+Short [] = Unit {0}
+Short (t ∷ ts) = ((length (t .settings) ≤ 5) × (length (t .speeds) ≤ 10)) × Short ts
 
-speeds-short : (chip : Chip) (number : ℕ) → length (tableOf chip number .speeds) ≤ 10
-speeds-short Nct7802y zero = omega arith
-speeds-short Nct7802y (suc zero) = omega arith
-speeds-short Nct7802y (suc (suc zero)) = omega arith
-speeds-short Nct7802y (suc (suc (suc zero))) = omega arith
-speeds-short Nct7802y (suc (suc (suc (suc n)))) = omega arith
-speeds-short F75373s zero = omega arith
-speeds-short F75373s (suc zero) = omega arith
-speeds-short F75373s (suc (suc zero)) = omega arith
-speeds-short F75373s (suc (suc (suc n))) = omega arith
-speeds-short Nct80 n = omega arith
+nth-short : (ts : List Table) (k : ℕ) → Short ts
+    → (length (getD ts k (record { settings = []; speeds = [] }) .settings) ≤ 5) × (length (getD ts k (record { settings = []; speeds = [] }) .speeds) ≤ 10)
+nth-short [] k h = (omega arith, omega arith)
+nth-short (t ∷ ts) zero h = h .0
+nth-short (t ∷ ts) (suc k) h = nth-short ts k (h .1)
+
+table-short : (chip : Chip) (number : ℕ) → (length (tableOf chip number .settings) ≤ 5) × (length (tableOf chip number .speeds) ≤ 10)
+table-short Nct7802y number =
+    nth-short nct7802y.tables (number - 1) ((omega arith, omega arith), ((omega arith, omega arith), ((omega arith, omega arith), tt)))
+table-short F75373s number = nth-short f75373s.tables (number - 1) ((omega arith, omega arith), ((omega arith, omega arith), tt))
+table-short Nct80 number = nth-short [] (number - 1) tt
 
 script-short : (chip : Chip) (plan : Plan) → length (scriptOf chip plan) ≤ 25
 unfolding scriptOf
@@ -99,8 +95,8 @@ script-short chip plan =
       points-short speeds (fulls (fullOf chip) speeds),
       points-short settings (curve .settings),
       points-short speeds (curve .speeds),
-      settings-short chip (plan .table),
-      speeds-short chip (plan .table),
+      table-short chip (plan .table) .0,
+      table-short chip (plan .table) .1,
     )
 
 pub script-within : (plan : Plan) → length (scriptFor plan) ≤ 25

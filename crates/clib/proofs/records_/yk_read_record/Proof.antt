@@ -1,22 +1,20 @@
+-- `records_::yk_read_record` meets its contract: the chip and the table of the plan that is read are those of the header.
+-- Assumes nothing.
+use Rattle.clib.proofs.Found.{used-within, found-packed}
+use Rattle.clib.proofs.Within.{told-within}
+use mathlib.Core.Path.{_∙_}
 use borrow.Author.Needs.{needs}
 use Rattle.clib.proofs.records_.yk_read_record.Statement.{statement}
 use Rattle.clib.proofs.records_.yk_read_record.Tie as tie
-use Rattle.clib.proofs.records_.yk_read_record.Reads as reads
-use Rattle.clib.proofs.records_.yk_read_record.Lts as lts
-use Rattle.clib.proofs.records_.of_found.Reads as of-found-reads
-use Rattle.records.proofs.read.Reads as read-reads
 
--- src/records_.rt:28:9
 read-requires : tie.Need-read-requires
 read-requires c κs = search needs
 
--- src/records_.rt:31:5
 of-found-requires : tie.Need-of-found-requires
-of-found-requires c κs = ?
+of-found-requires c κs = told-within _ _ _ (used-within _) (c .before .read .ensures .answer)
 
--- src/records_.rt:24:1
 returns : tie.Need-returns
-returns c = ?
+returns c = record { answer = c .of-found .ensures ∙ found-packed _ _ _ (c .before .before .read .ensures .answer) (c .before .before .read .ensures .plan) }
 
 pub yk-read-record-spec : {M : Type 1} → statement M
 yk-read-record-spec = tie.close (tie.spec read-requires of-found-requires returns)

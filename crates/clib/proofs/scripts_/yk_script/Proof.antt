@@ -1,31 +1,28 @@
+-- `scripts_::yk_script` meets its contract: it packs what the library answers of the plan that crossed.
+-- Assumes nothing.
+use Rattle.clib.proofs.Crossed.{script-room, script-made}
 use borrow.Author.Needs.{needs}
 use Rattle.clib.proofs.scripts_.yk_script.Statement.{statement}
 use Rattle.clib.proofs.scripts_.yk_script.Tie as tie
-use Rattle.clib.proofs.scripts_.yk_script.Reads as reads
-use Rattle.clib.proofs.scripts_.yk_script.Lts as lts
-use Rattle.clib.proofs.bodies.plan_from.Reads as plan-from-reads
-use Rattle.clib.proofs.packing.of_made.Reads as of-made-reads
-use Rattle.scripts.proofs.script.Reads as script-reads
 
--- src/scripts_.rt:10:9
 plan-from-requires : tie.Need-plan-from-requires
 plan-from-requires c κs = search needs
 
--- src/scripts_.rt:11:9
 script-requires : tie.Need-script-requires
 script-requires c κs = search needs
 
--- src/scripts_.rt:12:5
 of-made-requires : tie.Need-of-made-requires
-of-made-requires c κs = ?
+of-made-requires c κs = 
+    let a = c .before .before .before .before .before .before .before .args in
+    script-room (a .chip) (a .table) (a .body .now) (c .before .before .before .before .plan-from .ensures) (c .before .before .script .ensures)
 
--- src/scripts_.rt:6:1
 same-length : tie.Need-same-length
 same-length c = search needs
 
--- src/scripts_.rt:6:1
 returns : tie.Need-returns
-returns c = ?
+returns c = 
+    let a = c .before .before .before .before .before .before .before .before .args in
+    script-made (a .chip) (a .table) (a .body .now) (c .before .before .before .before .before .plan-from .ensures) (c .before .before .before .script .ensures) (c .of-made .ensures)
 
 pub yk-script-spec : {M : Type 1} → statement M
 yk-script-spec =
