@@ -2,7 +2,7 @@
 -- Assumes nothing.
 use Prim.Native.Nat.{ℕ, zero, suc, _+_, _*_, _<_}
 use native.Mathlib.Omega.{arith}
-use mathlib.Core.Path.{_≡_, refl, sym, ap₂, _∙_}
+use mathlib.Core.Path.{_≡_, refl, sym, ap, ap₂, _∙_}
 use mathlib.Core.Bool.{cond}
 use mathlib.Core.List.{List}
 use borrow.Author.Tests.{eq-eqb, ne-eqb}
@@ -18,7 +18,9 @@ use Rattle.cards.specs.declared.Named.the-variants.{Known, Unknown}
 use Rattle.cards.specs.Cards.{chipOf, whenKnown}
 use Rattle.plans.specs.declared.Plan.{Plan}
 use Rattle.plans.specs.Plans.{decoded}
-use Rattle.records.specs.Records.{chipIn, tableIn, bodyIn, noPlan, planIn, recordChecks, recordLength}
+use Rattle.records.specs.declared.Used.{Used}
+use Rattle.records.specs.declared.Used.the-variants as used
+use Rattle.records.specs.Records.{tellsUsed, chipIn, tableIn, bodyIn, noPlan, planIn, recordChecks, recordLength}
 use Rattle.cards.proofs.Numbers.{chip-number}
 use Rattle.records.proofs.Chips.{decoded-table}
 use Rattle.records.proofs.RoundTrip.{whole-record}
@@ -34,8 +36,10 @@ used-within bytes = by-name (chipOf (chipIn bytes))
     by-name Unknown = omega arith
 
 -- a refused record packs no value
-pub found-refused : (r : Refusal) (chip table : ℕ) → packed (numberOf r) 0 ≡ packsFound (numberOf r, 0) chip table
-found-refused r chip table = rw (ne-eqb (numberOf r) 0 (λ z. omega (arith, numberOf-positive r)))
+pub found-refused : {u : Used} {r : Refusal} {n : ℕ} (chip table : ℕ) → u ≡ used.Refused r → n ≡ numberOf r
+    → packed n 0 ≡ packsFound (tellsUsed u) chip table
+found-refused {u} {r} {n} chip table e q =
+    rw (ap tellsUsed e, q, ne-eqb (numberOf r) 0 (λ z. omega (arith, numberOf-positive r)))
 
 decoded-number : (chip : Chip) (number table : ℕ) (body : List ℕ) → chipOf number ≡ Known chip → decoded chip table body .chip ≡ number
 decoded-number Nct7802y number table body e = sym (chip-number number Nct7802y e)

@@ -46,8 +46,7 @@ returns c =
 returns-2 : tie.Need-returns-2
 returns-2 c = 
     let a = c .before .before .before .before .before .args in
-    c .packed2 .ensures ∙ ap (λ (n : ℕ). packed n 0) (c .before .number .ensures .answer) ∙ found-refused _ (a .chip) (a .table)
-    ∙ sym (ap (λ (s : Used). packsFound (tellsUsed s) (a .chip) (a .table)) (c .before .before .before .answer2 .given .1))
+    c .packed2 .ensures ∙ found-refused (a .chip) (a .table) (c .before .before .before .answer2 .given .1) (c .before .number .ensures .answer)
 
 pub of-found-spec : {M : Type 1} → statement M
 of-found-spec =

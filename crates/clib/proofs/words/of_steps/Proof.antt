@@ -31,9 +31,7 @@ packed-requires-2 : tie.Need-packed-requires-2
 packed-requires-2 c κs = search needs
 
 returns : tie.Need-returns
-returns c = 
-    c .packed .ensures ∙ ap (λ (n : ℕ). packed 0 n) (c .before .word-of .ensures)
-    ∙ sym (ap (λ (s : Steps). packsWord (tellsSteps s)) (c .before .before .before .steps .given .1))
+returns c = c .before .before .known-told .given
 
 returns-2 : tie.Need-returns-2
 returns-2 c = 
