@@ -1,6 +1,6 @@
 // Signed counts of steps as words.
-use readings::Steps;
 use crate::packing;
+use readings::Steps;
 ghost use mathlib.Core.Path.{_≡_};
 ghost use Rattle.readings.specs.Readings.{asWord};
 ghost use Rattle.readings.specs.Promises.{tellsSteps};

@@ -32,12 +32,12 @@ packed-requires-2 : tie.Need-packed-requires-2
 packed-requires-2 c κs = omega arith
 
 returns : tie.Need-returns
-returns c = 
+returns c =
     c .packed .ensures ∙ ap (λ (n : ℕ). packed 0 n) (c .before .facts-of .ensures .0)
     ∙ sym (ap (λ (s : Sampled). packsWatch (tells s)) (c .before .before .before .sampled .given .1))
 
 returns-2 : tie.Need-returns-2
-returns-2 c = 
+returns-2 c =
     c .packed2 .ensures ∙ ap₂ packed (c .before .before .number .ensures .answer) (c .before .facts-of2 .ensures .0)
     ∙ sym (ap (λ (s : Sampled). packsWatch (tells s)) (c .before .before .before .before .sampled2 .given .1))
 

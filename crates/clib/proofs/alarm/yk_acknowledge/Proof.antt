@@ -23,7 +23,7 @@ packed-requires : tie.Need-packed-requires
 packed-requires c κs = omega arith
 
 returns : tie.Need-returns
-returns c = 
+returns c =
     let facts = c .before .facts-of .ensures .0 ∙ ap factsOf (c .before .before .acknowledge .ensures .answer ∙ ap acknowledged (c .before .before .before .watch-of .ensures)) in
     record { answer = c .packed .ensures ∙ ap (λ (n : ℕ). packed 0 n) facts }
 

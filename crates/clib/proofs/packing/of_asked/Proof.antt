@@ -31,7 +31,7 @@ returns : tie.Need-returns
 returns c = c .packed .ensures ∙ sym (ap (λ (s : Asked). packs (tellsAsked s)) (c .before .before .asked .given .1))
 
 returns-2 : tie.Need-returns-2
-returns-2 c = 
+returns-2 c =
     c .packed2 .ensures ∙ ap (λ (n : ℕ). packed n 0) (c .before .number .ensures .answer)
     ∙ sym (ap (λ (s : Asked). packs (tellsAsked s)) (c .before .before .before .asked2 .given .1))
 

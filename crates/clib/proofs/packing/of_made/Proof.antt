@@ -29,7 +29,7 @@ returns : tie.Need-returns
 returns c = c .packed .ensures ∙ sym (ap (λ (s : Made). packs (tells s)) (c .before .before .made .given .1))
 
 returns-2 : tie.Need-returns-2
-returns-2 c = 
+returns-2 c =
     c .packed2 .ensures ∙ ap (λ (n : ℕ). packed n 0) (c .before .number .ensures .answer)
     ∙ sym (ap (λ (s : Made). packs (tells s)) (c .before .before .before .made2 .given .1))
 

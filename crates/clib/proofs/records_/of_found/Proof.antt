@@ -39,12 +39,12 @@ packed-requires-2 : tie.Need-packed-requires-2
 packed-requires-2 c κs = search needs
 
 returns : tie.Need-returns
-returns c = 
+returns c =
     let a = c .before .before .before .before .args in
     c .packed .ensures ∙ sym (ap (λ (s : Used). packsFound (tellsUsed s) (a .chip) (a .table)) (c .before .before .answer .given .1))
 
 returns-2 : tie.Need-returns-2
-returns-2 c = 
+returns-2 c =
     let a = c .before .before .before .before .before .args in
     c .packed2 .ensures ∙ found-refused (a .chip) (a .table) (c .before .before .before .answer2 .given .1) (c .before .number .ensures .answer)
 

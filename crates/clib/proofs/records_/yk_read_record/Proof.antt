@@ -12,12 +12,12 @@ read-requires : tie.Need-read-requires
 read-requires c κs = search needs
 
 of-found-requires : tie.Need-of-found-requires
-of-found-requires c κs = 
+of-found-requires c κs =
     let bytes = c .before .before .before .args .bytes .now in
     told-within (recordChecks bytes) _ _ (used-within bytes) (c .before .read .ensures .answer)
 
 returns : tie.Need-returns
-returns c = 
+returns c =
     let bytes = c .before .before .before .before .args .bytes .now in
     record { answer = c .of-found .ensures ∙ found-packed bytes _ _ (c .before .before .read .ensures .answer) (c .before .before .read .ensures .plan) }
 

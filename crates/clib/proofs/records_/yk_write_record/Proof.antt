@@ -12,7 +12,7 @@ write-requires : tie.Need-write-requires
 write-requires c κs = search needs
 
 of-used-requires : tie.Need-of-used-requires
-of-used-requires c κs = 
+of-used-requires c κs =
     let a = c .before .before .before .before .before .before .before .args in
     record-room (a .chip) (a .table) (a .body .now) (c .before .before .before .before .plan-from .ensures) (c .before .before .write .ensures)
 
@@ -20,7 +20,7 @@ same-length : tie.Need-same-length
 same-length c = search needs
 
 returns : tie.Need-returns
-returns c = 
+returns c =
     let a = c .before .before .before .before .before .before .before .before .args in
     record-written (a .chip) (a .table) (a .body .now) (c .before .before .before .before .before .plan-from .ensures) (c .before .before .before .write .ensures) (c .of-used .ensures)
 

@@ -12,7 +12,7 @@ play-requires : tie.Need-play-requires
 play-requires c κs = search needs
 
 of-made-requires : tie.Need-of-made-requires
-of-made-requires c κs = 
+of-made-requires c κs =
     let a = c .before .before .before .before .before .before .before .args in
     play-room (a .chip) (a .table) (a .body .now) (c .before .before .before .before .plan-from .ensures) (c .before .before .play .ensures)
 
@@ -20,7 +20,7 @@ same-length : tie.Need-same-length
 same-length c = search needs
 
 returns : tie.Need-returns
-returns c = 
+returns c =
     let a = c .before .before .before .before .before .before .before .before .args in
     play-made (a .chip) (a .table) (a .body .now) (c .before .before .before .before .before .plan-from .ensures) (c .before .before .before .play .ensures) (c .of-made .ensures)
 

@@ -1,5 +1,8 @@
 -- `words::of_steps` meets its contract: each arm packs what its case tells.
 -- Assumes nothing.
+use mir.Syntax.{w16}
+use mir.Val.{SFits}
+use mir.Facts.{toZ-ofZ}
 use Rattle.clib.specs.Packed.{packed, packsWord}
 use Rattle.readings.specs.Promises.{tellsSteps}
 use Rattle.readings.specs.declared.Steps.{Steps}
@@ -31,10 +34,13 @@ packed-requires-2 : tie.Need-packed-requires-2
 packed-requires-2 c κs = search needs
 
 returns : tie.Need-returns
-returns c = c .before .before .known-told .given
+returns c =
+    let number : SFits w16 (c .before .before .before .steps .given .0 .0) = record { sfits = c .before .before .known-told .given .0 .1 } in
+    c .packed .ensures ∙ ap (λ (n : ℕ). packed 0 n) (rw (toZ-ofZ number) at (c .before .word-of .ensures))
+    ∙ sym (ap (λ (s : Steps). packsWord (tellsSteps s)) (c .before .before .before .steps .given .1))
 
 returns-2 : tie.Need-returns-2
-returns-2 c = 
+returns-2 c =
     c .packed2 .ensures ∙ ap (λ (n : ℕ). packed n 0) (c .before .number .ensures .answer)
     ∙ sym (ap (λ (s : Steps). packsWord (tellsSteps s)) (c .before .before .before .steps2 .given .1))
 
