@@ -1,0 +1,4 @@
+pub mod Within
+pub mod Crossed
+pub mod Found
+pub mod Unique

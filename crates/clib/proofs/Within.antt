@@ -1,0 +1,107 @@
+-- What a call answers beside its refusal number is small: no record has more than 18 bytes, and no script more than 25 writes.
+-- Assumes nothing.
+use Prim.Native.Nat.{ℕ, zero, suc, _+_, _-_, _≤_, _<_, zero-le}
+use native.Mathlib.Omega.{arith}
+use mathlib.Core.Path.{_≡_, refl, sym, ap, subst, _∙_}
+use mathlib.Core.Bool.{Bool, true, false, cond}
+use mathlib.Core.List.{List, [], _∷_, _++_}
+use lib.Dec.{eqb}
+use lib.ListN.{length, getD, length-append}
+use Rattle.refusal.specs.Checks.{Check, first, told}
+use Rattle.cards.specs.declared.Chip.{Chip}
+use Rattle.cards.specs.declared.Chip.the-variants.{Nct7802y, F75373s, Nct80}
+use Rattle.cards.specs.declared.Named.{Named}
+use Rattle.cards.specs.declared.Named.the-variants.{Known, Unknown}
+use Rattle.cards.specs.Rows.{Table}
+use Rattle.cards.specs.Nct7802y as nct7802y
+use Rattle.cards.specs.F75373s as f75373s
+use Rattle.cards.specs.Cards.{chipOf, whenKnown, tableOf}
+use Rattle.plans.specs.declared.Plan.{Plan}
+use Rattle.plans.specs.Curves.{points, words}
+use Rattle.plans.specs.Orders.{fulls}
+use Rattle.plans.specs.Plans.{planned, decoded}
+use Rattle.records.specs.Records.{Sized, recordOf, encoded, header, body, bodyLength}
+use Rattle.records.proofs.Encoding.{body-of-plan}
+use Rattle.scripts.specs.Scripts.{scriptOf, scriptFor, fullOf}
+use Rattle.clib.specs.Bodies.{planFrom, unnamed}
+
+-- a value that is told is the value or 0
+pub told-within : {t : ℕ × ℕ} (checks : List Check) (value bound : ℕ) → value < bound → t ≡ told checks value → t .1 < bound
+told-within {t} checks value bound h e = rw (ap (λ (u : ℕ × ℕ). u .1) e) (by-test (eqb (first checks) 0))
+  where
+    by-test : (b : Bool) → cond b value 0 < bound
+    by-test true = h
+    by-test false = omega arith
+
+-- the arrays of a plan that crossed are as long as their types say
+named-sized : (chip table : ℕ) (bytes : List ℕ) (named : Named) → Sized (whenKnown named (λ c. decoded c table bytes) (unnamed chip table))
+unfolding words
+named-sized chip table bytes (Known Nct7802y) = record { temperatures = refl; duties = refl; bounds = refl; counts = refl }
+named-sized chip table bytes (Known F75373s) = record { temperatures = refl; duties = refl; bounds = refl; counts = refl }
+named-sized chip table bytes (Known Nct80) = record { temperatures = refl; duties = refl; bounds = refl; counts = refl }
+named-sized chip table bytes Unknown = record { temperatures = refl; duties = refl; bounds = refl; counts = refl }
+
+plan-sized : (chip table : ℕ) (bytes : List ℕ) → Sized (planFrom chip table bytes)
+unfolding planFrom
+plan-sized chip table bytes = named-sized chip table bytes (chipOf chip)
+
+body-short : (chip : Chip) → bodyLength chip ≤ 14
+body-short Nct7802y = omega arith
+body-short F75373s = omega arith
+body-short Nct80 = omega arith
+
+encoded-short : (named : Named) (plan : Plan) → Sized plan → length (whenKnown named (λ chip. recordOf chip plan) []) ≤ 18
+encoded-short (Known chip) plan S =
+    omega (arith, length-append (header (plan .chip) (plan .table)) (body (planned chip plan)), body-of-plan chip plan S, body-short chip)
+encoded-short Unknown plan S = omega arith
+
+pub record-within : (chip table : ℕ) (bytes : List ℕ) → length (encoded (planFrom chip table bytes)) ≤ 18
+record-within chip table bytes =
+    encoded-short (chipOf (planFrom chip table bytes .chip)) (planFrom chip table bytes) (plan-sized chip table bytes)
+
+-- as many writes as registers, at most
+points-short : (registers bytes : List ℕ) → length (points registers bytes) ≤ length registers
+points-short [] bytes = omega arith
+points-short (r ∷ rs) [] = omega arith
+points-short (r ∷ rs) (b ∷ bs) = omega (arith, points-short rs bs)
+
+-- each of some tables has at most five settings and ten speeds, and so has the one of any number
+abbrev Short : List Table → Type 0
+Short [] = Unit {0}
+Short (t ∷ ts) = ((length (t .settings) ≤ 5) × (length (t .speeds) ≤ 10)) × Short ts
+
+nth-short : (ts : List Table) (k : ℕ) → Short ts
+    → (length (getD ts k (record { settings = []; speeds = [] }) .settings) ≤ 5) × (length (getD ts k (record { settings = []; speeds = [] }) .speeds) ≤ 10)
+nth-short [] k h = (omega arith, omega arith)
+nth-short (t ∷ ts) zero h = h .0
+nth-short (t ∷ ts) (suc k) h = nth-short ts k (h .1)
+
+table-short : (chip : Chip) (number : ℕ) → (length (tableOf chip number .settings) ≤ 5) × (length (tableOf chip number .speeds) ≤ 10)
+table-short Nct7802y number =
+    nth-short nct7802y.tables (number - 1) ((omega arith, omega arith), ((omega arith, omega arith), ((omega arith, omega arith), tt)))
+table-short F75373s number = nth-short f75373s.tables (number - 1) ((omega arith, omega arith), ((omega arith, omega arith), tt))
+table-short Nct80 number = nth-short [] (number - 1) tt
+
+script-short : (chip : Chip) (plan : Plan) → length (scriptOf chip plan) ≤ 25
+unfolding scriptOf
+script-short chip plan =
+    let settings = tableOf chip (plan .table) .settings in
+    let speeds = tableOf chip (plan .table) .speeds in
+    let curve = planned chip plan in
+    omega (
+      arith,
+      length-append (points speeds (fulls (fullOf chip) speeds)) (points settings (curve .settings) ++ points speeds (curve .speeds)),
+      length-append (points settings (curve .settings)) (points speeds (curve .speeds)),
+      points-short speeds (fulls (fullOf chip) speeds),
+      points-short settings (curve .settings),
+      points-short speeds (curve .speeds),
+      table-short chip (plan .table) .0,
+      table-short chip (plan .table) .1,
+    )
+
+pub script-within : (plan : Plan) → length (scriptFor plan) ≤ 25
+script-within plan = by-name (chipOf (plan .chip))
+  where
+    by-name : (named : Named) → length (whenKnown named (λ c. scriptOf c plan) []) ≤ 25
+    by-name (Known chip) = script-short chip plan
+    by-name Unknown = omega arith

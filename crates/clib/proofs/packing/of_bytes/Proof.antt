@@ -1,0 +1,61 @@
+-- `packing::of_bytes` meets its contract: each arm packs what its case tells.
+-- Assumes nothing.
+use Rattle.clib.specs.Packed.{packed, packsPair}
+use Rattle.readings.specs.Promises.{tellsBytes}
+use Rattle.readings.specs.declared.Bytes.{Bytes}
+use Prim.Native.Nat.{ℕ}
+use mathlib.Core.Path.{sym, ap, _∙_}
+use borrow.Author.Needs.{needs}
+use Rattle.clib.proofs.packing.of_bytes.Statement.{statement}
+use Rattle.clib.proofs.packing.of_bytes.Tie as tie
+
+enum-known-bytes : tie.Need-enum-known-bytes
+enum-known-bytes c = search needs
+
+cast-packed : tie.Need-cast-packed
+cast-packed c = search needs
+
+mul-packed : tie.Need-mul-packed
+mul-packed c = search needs
+
+cast-packed-2 : tie.Need-cast-packed-2
+cast-packed-2 c = search needs
+
+add-packed : tie.Need-add-packed
+add-packed c = search needs
+
+packed-requires : tie.Need-packed-requires
+packed-requires c κs = search needs
+
+enum-known-bytes-2 : tie.Need-enum-known-bytes-2
+enum-known-bytes-2 c = search needs
+
+number-requires : tie.Need-number-requires
+number-requires c κs = search needs
+
+packed-requires-2 : tie.Need-packed-requires-2
+packed-requires-2 c κs = search needs
+
+returns : tie.Need-returns
+returns c = c .packed .ensures ∙ sym (ap (λ (s : Bytes). packsPair (tellsBytes s)) (c .before .before .bytes .given .1))
+
+returns-2 : tie.Need-returns-2
+returns-2 c =
+    c .packed2 .ensures ∙ ap (λ (n : ℕ). packed n 0) (c .before .number .ensures .answer)
+    ∙ sym (ap (λ (s : Bytes). packsPair (tellsBytes s)) (c .before .before .before .bytes2 .given .1))
+
+pub of-bytes-spec : {M : Type 1} → statement M
+of-bytes-spec =
+    tie.close
+    (tie.spec
+    enum-known-bytes
+    cast-packed
+    mul-packed
+    cast-packed-2
+    add-packed
+    packed-requires
+    enum-known-bytes-2
+    number-requires
+    packed-requires-2
+    returns
+    returns-2)

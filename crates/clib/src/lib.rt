@@ -1,0 +1,11 @@
+// The C boundary: each call of the library as a function on numbers and byte slices that answers one number.
+mod alarm;
+mod bodies;
+mod curves;
+mod facts;
+mod packing;
+mod records_;
+mod registers;
+mod scripts_;
+mod temperatures;
+mod words;
