@@ -5,7 +5,7 @@ use native.Mathlib.Omega.{arith}
 use mathlib.Core.Path.{_≡_, sym, _∙_}
 use mathlib.Core.List.{List}
 use lib.IntN.{ℤ}
-use Rattle.clib.specs.Packed.{packed, YkWrite, YkRead, YkReset, YkIdentity, YkSteps, YkBytes, YkMicrovolts, YkSample, YkAcknowledge, YkReadRecord, YkWriteRecord, YkAskedOfPlan, YkAskedOfImage, YkScript, YkPlay}
+use Rattle.clib.specs.Packed.{packed, YkWrite, YkRead, YkReset, YkIdentity, YkSteps, YkBytes, YkMicrovolts, YkSample, YkAcknowledge, YkReadRecord, YkWriteRecord, YkAskedOfPlan, YkAskedOfImage, YkScript, YkPlay, YkTranslate}
 
 pub packed-refusal : (a b v w : ℕ) → a < 256 → b < 256 → packed a v ≡ packed b w → a ≡ b
 packed-refusal a b v w h k e = omega arith
@@ -65,3 +65,6 @@ script-unique p q = (p .answer ∙ sym (q .answer), p .bytes ∙ sym (q .bytes))
 pub play-unique : {chip table : ℕ} {body old : List ℕ} {count : ℕ} {r s : ℕ} {l m : List ℕ}
     → YkPlay chip table body old count r l → YkPlay chip table body old count s m → (r ≡ s) × (l ≡ m)
 play-unique p q = (p .answer ∙ sym (q .answer), p .bytes ∙ sym (q .bytes))
+
+pub translate-unique : {input old : List ℕ} {r s : ℕ} {l m : List ℕ} → YkTranslate input old r l → YkTranslate input old s m → (r ≡ s) × (l ≡ m)
+translate-unique p q = (p .answer ∙ sym (q .answer), p .bytes ∙ sym (q .bytes))

@@ -1,6 +1,6 @@
--- What a call answers beside its refusal number is small: no record has more than 18 bytes, and no script more than 25 writes.
+-- What a call answers beside its refusal number is small: no record has more than 18 bytes, no script more than 25 writes, no text more than 40,979 bytes.
 -- Assumes nothing.
-use Prim.Native.Nat.{ℕ, zero, suc, _+_, _-_, _≤_, _<_, zero-le}
+use Prim.Native.Nat.{ℕ, zero, suc, _+_, _-_, _≤_, _<_, _^_, zero-le}
 use native.Mathlib.Omega.{arith}
 use mathlib.Core.Path.{_≡_, refl, sym, ap, subst, _∙_}
 use mathlib.Core.Bool.{Bool, true, false, cond}
@@ -20,9 +20,12 @@ use Rattle.plans.specs.declared.Plan.{Plan}
 use Rattle.plans.specs.Curves.{points, words}
 use Rattle.plans.specs.Orders.{fulls}
 use Rattle.plans.specs.Plans.{planned, decoded}
-use Rattle.records.specs.Records.{Sized, recordOf, encoded, header, body, bodyLength}
+use Rattle.records.specs.Records.{Sized, roomChecks, recordOf, encoded, header, body, bodyLength}
 use Rattle.records.proofs.Encoding.{body-of-plan}
 use Rattle.scripts.specs.Scripts.{scriptOf, scriptFor, fullOf}
+use Rattle.translation.specs.declared.Text.{Text}
+use Rattle.translation.specs.Text.{textOf, tells, Translates}
+use Rattle.translation.proofs.Bound.{text-short}
 use Rattle.clib.specs.Bodies.{planFrom, unnamed}
 
 -- a value that is told is the value or 0
@@ -105,3 +108,8 @@ script-within plan = by-name (chipOf (plan .chip))
     by-name : (named : Named) → length (whenKnown named (λ c. scriptOf c plan) []) ≤ 25
     by-name (Known chip) = script-short chip plan
     by-name Unknown = omega arith
+
+-- no text is longer than 40,979 bytes
+pub text-within : {input old new : List ℕ} {r : Text} → Translates input old r new → tells r .1 < 2 ^ 56
+text-within {input} {old} p =
+    told-within (roomChecks (textOf input) old) (length (textOf input)) (2 ^ 56) (omega (arith, text-short input)) (p .answer)

@@ -19,8 +19,9 @@ use Rattle.watch.specs.Alarm.{sample, after, acknowledged}
 use Rattle.watch.specs.Promises.{sampleChecks}
 use Rattle.plans.specs.declared.Plan.{Plan}
 use Rattle.plans.specs.Plans.{planned, held, asks}
-use Rattle.records.specs.Records.{chipIn, tableIn, recordLength, recordChecks, encoded, writeChecks}
+use Rattle.records.specs.Records.{chipIn, tableIn, recordLength, recordChecks, encoded, writeChecks, roomChecks}
 use Rattle.scripts.specs.Scripts.{scriptOf, scriptFor, scriptChecks, playChecks, flat, played}
+use Rattle.translation.specs.Text.{textOf}
 use Rattle.clib.specs.Facts.{watchOf, factsOf}
 use Rattle.clib.specs.Bodies.{planFrom}
 
@@ -138,3 +139,8 @@ pub record YkPlay (chip table : ℕ) (body old : List ℕ) (count r : ℕ) (new 
       ≡ left (playChecks (planFrom chip table body) old)
       (whenKnown (chipOf (planFrom chip table body .chip)) (λ c. played c (take count (scriptOf c (planFrom chip table body))) old) old)
       old
+
+-- what `yk_translate` promises
+pub record YkTranslate (input old : List ℕ) (r : ℕ) (new : List ℕ) : Type 0 where
+  pub answer : r ≡ packs (told (roomChecks (textOf input) old) (length (textOf input)))
+  pub bytes : new ≡ left (roomChecks (textOf input) old) (textOf input ++ drop (length (textOf input)) old) old

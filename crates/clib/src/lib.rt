@@ -8,4 +8,5 @@ mod records_;
 mod registers;
 mod scripts_;
 mod temperatures;
+mod texts;
 mod words;

@@ -5,6 +5,7 @@ use plans::Asked;
 use readings::Bytes;
 use records::Used;
 use scripts::Made;
+use translation::Text;
 ghost use mathlib.Core.Path.{_≡_};
 ghost use Prim.Native.Nat.{_<_, _^_};
 ghost use Rattle.images.specs.Images.{tells, tellsByte};
@@ -12,6 +13,7 @@ ghost use Rattle.readings.specs.Promises.{tellsBytes};
 ghost use Rattle.plans.specs.Plans.{tellsAsked};
 ghost use Rattle.records.specs.Records.{tellsUsed};
 ghost use Rattle.scripts.specs.Scripts as scripts;
+ghost use Rattle.translation.specs.Text as translation;
 ghost use Rattle.clib.specs.Packed.{packed, packs, packsPair};
 
 // A value of at most 56 bits has room above the refusal number.
@@ -76,5 +78,15 @@ pub fn of_made(made: Made) -> u64
     match made {
         Made::Writes(writes) => packed(0, writes as u64),
         Made::Refused(refusal) => packed(refusal::number(refusal), 0),
+    }
+}
+
+pub fn of_text(text: Text) -> u64
+    requires { ⌜ translation.tells text .1 < 2 ^ 56 ⌝ }
+    ensures { λ r. ⌜ r ≡ packs (translation.tells text) ⌝ }
+{
+    match text {
+        Text::Bytes(length) => packed(0, length as u64),
+        Text::Refused(refusal) => packed(refusal::number(refusal), 0),
     }
 }
