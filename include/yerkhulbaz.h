@@ -1,0 +1,288 @@
+/*
+ * yerkhulbaz: register images, readings, the alarm watch, identity, cooling plans and scripts for
+ * three hardware monitors. Chip 1 is the Nuvoton NCT7802Y, chip 2 the Fintek F75373S, chip 3 the
+ * onsemi NCT80.
+ *
+ * The library does no input or output, allocates nothing and keeps nothing between two calls: it
+ * works on buffers that the caller lends for the time of the call. Link libclib.a (x86-64 Linux).
+ *
+ * ANSWERS. Every function answers every input and returns one uint64_t: the low byte is the
+ * refusal, 0 when the call was accepted; the rest is the value. Take it apart with yk_refusal()
+ * and yk_value(), or with the function that stands beside a prototype below. Look at the refusal
+ * first.
+ *
+ * A REFUSED CALL has value 0 and leaves every lent buffer as it was. (One exception in the value:
+ * a refused yk_sample still carries the watch, unchanged.) Where several refusals apply, the
+ * answer is the first in the order in which the prototype's comment lists them.
+ *
+ * BUFFERS. A buffer is a pointer and then its length in bytes. Bytes past the length are neither
+ * read nor written. A pointer must not be null, not even with length 0. A buffer that is written
+ * (image of yk_write, yk_reset and yk_play; out) must not overlap another buffer of the same
+ * call: to play a table of an image onto the same image, copy the table's bytes out first.
+ *
+ * AN IMAGE is the 256 register bytes of one chip, indexed by address (chip 1: bank 0). Any other
+ * length is refused with 8. Functions work on the image only; the caller moves bytes between the
+ * image and the chip.
+ *
+ * A PLAN is a chip, a fan table and a body, the table's bytes in register order:
+ *   chip 1, tables 1 to 3, 9 bytes:   T1 T2 T3 T4 critical FL1 FL2 FL3 FL4
+ *       temperatures are signed degrees, duties 0 to 255; in the image from 80h, 90h, A0h
+ *   chip 2, tables 1 and 2, 14 bytes: B1 B2 B3 B4 then C1 to C5, high byte first
+ *       temperatures are degrees 0 to 255, counts 0 to 65,535; in the image from A0h, B0h
+ *   chip 3 has no fan table.
+ * Missing body bytes count as zero, further ones are ignored. A plan is in order when
+ *   chip 1: T1 < T2 < T3 < T4, T4 at most critical (else 6); FL1 to FL4 never fall (else 7)
+ *   chip 2: B1 > B2 > B3 > B4 (else 6); C1 to C5 never fall (else 7).
+ * More duty is faster; a smaller count is faster, 0000h is full speed and FFFFh is off.
+ */
+#ifndef YERKHULBAZ_H
+#define YERKHULBAZ_H
+
+#include <stddef.h>
+#include <stdint.h>
+
+#ifdef __cplusplus
+extern "C" {
+#endif
+
+/* Refusals: the low byte of an answer. */
+enum {
+    YK_ACCEPTED = 0,
+    YK_REFUSED_HEAD = 1,         /* a plan record has fewer than 4 bytes left */
+    YK_REFUSED_MARK = 2,         /* its mark is not 43h 50h */
+    YK_REFUSED_CHIP = 3,         /* the chip number is not 1, 2 or 3 */
+    YK_REFUSED_TABLE = 4,        /* the chip has no such fan table */
+    YK_REFUSED_CUT_SHORT = 5,    /* the record's body is cut short */
+    YK_REFUSED_TEMPERATURES = 6, /* temperatures of the plan are out of order */
+    YK_REFUSED_SPEEDS = 7,       /* duties or counts of the plan are out of order */
+    YK_REFUSED_IMAGE = 8,        /* a register image is not 256 bytes long */
+    YK_REFUSED_OUTPUT = 9,       /* the output buffer is shorter than the result */
+    YK_REFUSED_IDENTITY = 10,    /* identity is not confirmed (for chip 3 always) */
+    YK_REFUSED_WIDTH = 11,       /* the temperature width is not 8, 9, 11 or 12 */
+    YK_REFUSED_STEPS = 12        /* a number of steps doesn't fit the width */
+};
+
+/* Behaviours of an alarm watch. Any other number counts as comparator. */
+enum { YK_DEFAULT = 0, YK_ONE_TIME = 1, YK_COMPARATOR = 2 };
+
+/* Chips. */
+enum { YK_NCT7802Y = 1, YK_F75373S = 2, YK_NCT80 = 3 };
+
+/* Sizes in bytes. A buffer of the size named MAX is never refused with 9. */
+enum {
+    YK_IMAGE = 256,
+    YK_BODY_CHIP_1 = 9,
+    YK_BODY_CHIP_2 = 14,
+    YK_RECORD_MAX = 18,    /* yk_write_record: 13 for chip 1, 18 for chip 2 */
+    YK_SCRIPT_MAX = 48,    /* yk_script: 26 for chip 1, 48 for chip 2 */
+    YK_INPUT_MAX = 4096,   /* yk_translate: a longer input is `input too long` */
+    YK_TEXT_MAX = 40979    /* yk_translate: no input has a longer text */
+};
+
+/* ---- Taking an answer apart */
+
+/* The refusal, one of the numbers above; 0 when the call was accepted. */
+static inline uint8_t yk_refusal(uint64_t answer) {
+    return (uint8_t)(answer & 0xFFu);
+}
+
+/* The value; 0 when the call was refused (but see yk_sample). */
+static inline uint64_t yk_value(uint64_t answer) {
+    return answer >> 8;
+}
+
+/* The steps of an accepted yk_steps, with their sign. */
+static inline int16_t yk_steps_value(uint64_t answer) {
+    uint64_t word = yk_value(answer) & 0xFFFFu;
+    return word < 0x8000u ? (int16_t)word : (int16_t)((int32_t)word - 0x10000);
+}
+
+/* The two bytes of an accepted yk_bytes. */
+static inline uint8_t yk_bytes_high(uint64_t answer) {
+    return (uint8_t)((yk_value(answer) >> 8) & 0xFFu);
+}
+static inline uint8_t yk_bytes_low(uint64_t answer) {
+    return (uint8_t)(yk_value(answer) & 0xFFu);
+}
+
+/* An accepted yk_read_record: the record's length in bytes (13 or 18), its chip, its table. */
+static inline size_t yk_record_used(uint64_t answer) {
+    return (size_t)(yk_value(answer) & 0xFFu);
+}
+static inline uint8_t yk_record_chip(uint64_t answer) {
+    return (uint8_t)((yk_value(answer) >> 8) & 0xFFu);
+}
+static inline uint8_t yk_record_table(uint64_t answer) {
+    return (uint8_t)((yk_value(answer) >> 16) & 0xFFu);
+}
+
+/* yk_sample and yk_acknowledge: hot, pending and the output after the call, each 0 or 1. */
+static inline uint8_t yk_facts_hot(uint64_t answer) {
+    return (uint8_t)(yk_value(answer) & 1u);
+}
+static inline uint8_t yk_facts_pending(uint64_t answer) {
+    return (uint8_t)((yk_value(answer) >> 1) & 1u);
+}
+static inline uint8_t yk_facts_output(uint64_t answer) {
+    return (uint8_t)((yk_value(answer) >> 2) & 1u);
+}
+
+/* The same as one byte, to be kept and handed to the watch's next call. */
+static inline uint8_t yk_facts(uint64_t answer) {
+    return (uint8_t)(yk_value(answer) & 3u);
+}
+
+/* ---- Register images */
+
+/*
+ * Writes one byte as the chip would take it: writable bits are replaced, write-one-to-clear bits
+ * are cleared where byte has a 1, the other bits keep. A register that can't be written keeps
+ * its byte, and the call is accepted all the same.
+ * Refusals: 3, 8. Value: 0. Afterwards: only image[address] may have changed.
+ */
+uint64_t yk_write(uint8_t chip, uint8_t *image, size_t image_length, uint8_t address, uint8_t byte);
+
+/*
+ * Reads one byte; nothing changes, nothing is cleared by reading.
+ * Refusals: 3, 8. Value: the byte, (uint8_t)yk_value(answer).
+ */
+uint64_t yk_read(uint8_t chip, const uint8_t *image, size_t image_length, uint8_t address);
+
+/*
+ * Fills the image with the chip's power-on bytes.
+ * Refusals: 3, 8. Value: 0. Afterwards: all 256 bytes are those of power-on.
+ */
+uint64_t yk_reset(uint8_t chip, uint8_t *image, size_t image_length);
+
+/*
+ * Whether the image is that of the chip, by its identity registers. Chip 1: FDh is 50h, FEh is
+ * C3h, the upper four bits of FFh are 2, bits 4 to 0 of 05h and bits 5 to 0 of 08h are zero.
+ * Chip 2: 5Ah, 5Bh, 5Dh, 5Eh are 02h, 04h, 19h, 34h. Chip 3 is never confirmed.
+ * Refusals: 3, 8, 10. Value: 0; accepted means confirmed.
+ */
+uint64_t yk_identity(uint8_t chip, const uint8_t *image, size_t image_length);
+
+/* ---- Readings */
+
+/*
+ * The steps of a temperature's two bytes: the 16-bit two's complement number high:low divided by
+ * 2 to the power 16 - width, rounded towards minus infinity. A step is 1 degree at width 8, 1/2
+ * at 9, 1/8 at 11 (chip 1), 1/16 at 12 (chip 3). The low bits past the width are ignored.
+ * Refusals: 11. Value: the steps; take them with yk_steps_value(answer).
+ */
+uint64_t yk_steps(uint8_t width, uint8_t high, uint8_t low);
+
+/*
+ * The two bytes of a number of steps, the ignored low bits as zero. A width of w takes
+ * -2^(w-1) to 2^(w-1) - 1.
+ * Refusals: 11, 12. Value: high * 256 + low; yk_bytes_high(answer), yk_bytes_low(answer).
+ */
+uint64_t yk_bytes(uint8_t width, int16_t steps);
+
+/*
+ * The microvolts of a voltage word of chip 3: its bits 15 to 6 times 2,500.
+ * Refusals: none. Value: the microvolts, 0 to 2,557,500.
+ */
+uint64_t yk_microvolts(uint16_t word);
+
+/* ---- The alarm watch of chip 3 */
+
+/*
+ * One sample. The caller keeps a watch as two bytes: its behaviour, which stays, and its facts,
+ * 0 at first, then yk_facts(answer) of the last call. In facts bit 0 is hot, bit 1 is pending,
+ * other bits are ignored. steps is a 12-bit step count (1/16 degree, -2048 to 2047); high and
+ * hysteresis are whole degrees.
+ * Above the high limit hot goes on; otherwise below the hysteresis limit hot goes off; otherwise
+ * it stays, at a limit too. Then pending goes on: in default if hot is on, in one-time if hot
+ * went from off to on in this sample, in comparator never. The output is hot in comparator,
+ * pending in the other two.
+ * Refusals: 12. Value: hot + 2 * pending + 4 * output, after the sample; yk_facts_hot(answer),
+ * yk_facts_pending(answer), yk_facts_output(answer). A refused sample carries the facts as they
+ * were, so facts = yk_facts(answer) is right after every call.
+ */
+uint64_t yk_sample(uint8_t behaviour, uint8_t facts, int16_t steps, int8_t high, int8_t hysteresis);
+
+/*
+ * Turns pending off and keeps hot.
+ * Refusals: none. Value: as of yk_sample.
+ */
+uint64_t yk_acknowledge(uint8_t behaviour, uint8_t facts);
+
+/* ---- Plan records */
+
+/*
+ * Reads the plan record that begins at bytes[0]: 43h 50h, chip, table, body. Bytes after the
+ * record are not looked at; add yk_record_used(answer) to come to the next record.
+ * Refusals: 1, 2, 3, 4, 5, 6, 7. Value: used + 256 * chip + 65536 * table;
+ * yk_record_used(answer), yk_record_chip(answer), yk_record_table(answer). The plan's body stands
+ * in bytes[4] to bytes[used - 1], used - 4 bytes.
+ */
+uint64_t yk_read_record(const uint8_t *bytes, size_t length);
+
+/*
+ * Writes a plan's record.
+ * Refusals: 3, 4, 6, 7, 9. Value: the length, 13 or 18. Afterwards: the record stands in
+ * out[0] to out[length - 1]; the bytes of out past it are as they were.
+ */
+uint64_t yk_write_record(uint8_t chip, uint8_t table, const uint8_t *body, size_t body_length,
+                         uint8_t *out, size_t out_length);
+
+/* ---- What is asked of a fan */
+
+/*
+ * The speed that a plan asks for at temperature t, in order or not: the duty (0 to 255) for chip
+ * 1, the count (0 to 65,535) for chip 2. t is one byte, signed for chip 1 (pass (uint8_t)degrees)
+ * and unsigned for chip 2.
+ * Refusals: 3, 4. Value: the duty or count.
+ */
+uint64_t yk_asked_of_plan(uint8_t chip, uint8_t table, const uint8_t *body, size_t body_length,
+                          uint8_t t);
+
+/*
+ * The same of the table's bytes that stand in an image. The chip's identity is not looked at.
+ * Refusals: 3, 4, 8. Value: the duty or count.
+ */
+uint64_t yk_asked_of_image(uint8_t chip, uint8_t table, const uint8_t *image, size_t image_length,
+                           uint8_t t);
+
+/* ---- Scripts */
+
+/*
+ * Writes a plan's script: pairs of address and byte, to be written to the chip in this order.
+ * First every duty goes to FFh (chip 1) or every count byte to 00h (chip 2), then the
+ * temperatures are written, then the speeds as planned. So a table that is loaded in part never
+ * asks for less than the slower of the old table and the plan.
+ * Refusals: 3, 4, 6, 7, 9. Value: the number of writes, 13 or 24. Afterwards: write k (from 0) is
+ * out[2 * k], out[2 * k + 1]; the bytes of out past the script are as they were.
+ */
+uint64_t yk_script(uint8_t chip, uint8_t table, const uint8_t *body, size_t body_length,
+                   uint8_t *out, size_t out_length);
+
+/*
+ * Plays the first count writes of a plan's script on an image, as yk_write would make them; a
+ * count above the script's length means all. Identity is confirmed once, before the first write.
+ * Every play begins with the script's first write: after a cut, play the whole script again.
+ * Refusals: 3, 4, 6, 7, 8, 10. Value: the number of writes made. Afterwards: outside of the plan's
+ * table the image is as it was; after a whole script the table holds the plan's body.
+ */
+uint64_t yk_play(uint8_t chip, uint8_t table, const uint8_t *body, size_t body_length,
+                 uint8_t *image, size_t image_length, size_t count);
+
+/* ---- Text */
+
+/*
+ * Translates plan records into text: per plan a line `plan N chip C table T writes W` and one
+ * line `AA BB` per write (address and byte, hexadecimal), at the end `end N`. At a record that is
+ * refused the text ends with `plan N refused R`: the call itself is accepted then. An input of
+ * more than 4,096 bytes gives the line `input too long`. Every line ends with a line feed; the
+ * text does not end with a zero byte.
+ * Refusals: 9. Value: the length of the text. Afterwards: the text stands in out[0] to
+ * out[length - 1]; the bytes of out past it are as they were.
+ */
+uint64_t yk_translate(const uint8_t *input, size_t input_length, uint8_t *out, size_t out_length);
+
+#ifdef __cplusplus
+}
+#endif
+
+#endif

@@ -1,0 +1,142 @@
+//! The benchmark: medians over repeated runs of library and model in turn, and their ratio. Both
+//! must add up to the same sums.
+
+use crate::model::{Plan, IMAGE, INPUT, SCRIPT};
+use crate::random::{Draft, Random};
+use crate::subject::{Model, Subject};
+use std::time::Instant;
+
+const RUNS: usize = 41;
+const WORK: usize = 64;
+
+/// What every run works on.
+struct Ground {
+    plans: Vec<Draft>,
+    records: Vec<Vec<u8>>,
+    images: Vec<Vec<u8>>,
+    writes: Vec<(u8, u8)>,
+    input: Vec<u8>,
+    text: Vec<u8>,
+}
+
+fn ground(seed: u64) -> Ground {
+    let r = &mut Random::new(seed);
+    let plans: Vec<Draft> = (0..WORK).map(|_| r.good_plan()).collect();
+    // 160 records of chip 1 and 112 of chip 2 are exactly 4,096 bytes.
+    let mut input = Vec::new();
+    for k in 0..272 {
+        let chip = if k % 17 < 10 { 1 } else { 2 };
+        input.extend(Draft { chip, table: 1 + (k % 2) as u8, body: r.ordered(chip) }.record());
+    }
+    assert_eq!(input.len(), INPUT);
+    Ground {
+        records: plans.iter().map(|plan| plan.record()).collect(),
+        images: plans.iter().map(|plan| r.confirmed(plan.chip)).collect(),
+        writes: (0..WORK).map(|_| (r.byte(), r.byte())).collect(),
+        plans,
+        input,
+        text: vec![0; 1 << 16],
+    }
+}
+
+type Job<S> = fn(&S, &mut Ground) -> u64;
+
+fn writes<S: Subject>(s: &S, g: &mut Ground) -> u64 {
+    let mut sum = 0;
+    for (image, plan) in g.images.iter_mut().zip(&g.plans) {
+        for (address, byte) in &g.writes {
+            // The identity registers stay as they are: no row of theirs has a mask.
+            sum += u64::from(s.write(plan.chip, image, *address, *byte));
+            sum += u64::from(image[usize::from(*address)]);
+        }
+    }
+    sum
+}
+
+fn identities<S: Subject>(s: &S, g: &mut Ground) -> u64 {
+    let mut sum = 0;
+    for chip in 1..=2 {
+        sum += g.images.iter().map(|image| u64::from(s.identity(chip, image))).sum::<u64>();
+    }
+    sum
+}
+
+fn records<S: Subject>(s: &S, g: &mut Ground) -> u64 {
+    let mut sum = 0;
+    for record in &g.records {
+        let (refusal, chip, table, body, used) = s.read_record(record);
+        sum += u64::from(refusal) + u64::from(chip) + u64::from(table) + used as u64;
+        sum += body.iter().map(|byte| u64::from(*byte)).sum::<u64>();
+    }
+    sum
+}
+
+fn scripts<S: Subject>(s: &S, g: &mut Ground) -> u64 {
+    let mut sum = 0;
+    let mut out = [0; SCRIPT];
+    for plan in &g.plans {
+        let (refusal, writes) = s.script(plan.plan(), &mut out);
+        sum += u64::from(refusal) + writes as u64;
+        sum += out.iter().map(|byte| u64::from(*byte)).sum::<u64>();
+    }
+    sum
+}
+
+fn plays<S: Subject>(s: &S, g: &mut Ground) -> u64 {
+    let mut sum = 0;
+    for (plan, image) in g.plans.iter().zip(g.images.iter_mut()) {
+        let Draft { chip, table, body } = plan;
+        let plan = Plan { chip: *chip, table: *table, body };
+        let (refusal, made) = s.play(plan, image, 99);
+        sum += u64::from(refusal) + made as u64 + u64::from(image[0xA5]);
+    }
+    sum
+}
+
+fn texts<S: Subject>(s: &S, g: &mut Ground) -> u64 {
+    let (refusal, length) = s.translate(&g.input, &mut g.text);
+    u64::from(refusal) + length as u64 + u64::from(g.text[length / 2])
+}
+
+/// Nanoseconds per call of one run of `times` jobs, and its sum.
+fn run<S: Subject>(s: &S, job: Job<S>, seed: u64, times: usize, calls: usize) -> (f64, u64) {
+    let mut ground = ground(seed);
+    // SAFETY: a volatile read of a local. It hides the job, so that no work moves out of the loop.
+    let job = unsafe { std::ptr::read_volatile(&job) };
+    let mut sum = job(s, &mut ground);
+    let start = Instant::now();
+    for _ in 0..times {
+        sum = sum.wrapping_add(job(s, &mut ground));
+    }
+    (start.elapsed().as_nanos() as f64 / (times * calls) as f64, sum)
+}
+
+fn median(mut times: Vec<f64>) -> f64 {
+    times.sort_by(|a, b| a.partial_cmp(b).unwrap());
+    times[times.len() / 2]
+}
+
+fn compare<S: Subject>(name: &str, s: &S, jobs: (Job<S>, Job<Model>), seed: u64, times: usize, calls: usize) {
+    let (mut subject, mut model) = (Vec::new(), Vec::new());
+    for _ in 0..RUNS {
+        let ours = run(s, jobs.0, seed, times, calls);
+        let theirs = run(&Model, jobs.1, seed, times, calls);
+        assert_eq!(ours.1, theirs.1, "{}: library and model differ", name);
+        subject.push(ours.0);
+        model.push(theirs.0);
+    }
+    let (subject, model) = (median(subject), median(model));
+    println!("{:22} {:12.1} {:12.1} {:8.2}", name, subject, model, subject / model);
+}
+
+/// Prints a line per function: library and model in nanoseconds per call, and their ratio.
+pub fn all<S: Subject>(s: &S, seed: u64) {
+    assert_eq!(ground(seed).images[0].len(), IMAGE);
+    println!("{:22} {:>12} {:>12} {:>8}", "median ns per call", "library", "model", "ratio");
+    compare("write", s, (writes, writes), seed, 50, WORK * WORK);
+    compare("identity", s, (identities, identities), seed, 500, 2 * WORK);
+    compare("record read", s, (records, records), seed, 500, WORK);
+    compare("script", s, (scripts, scripts), seed, 500, WORK);
+    compare("play", s, (plays, plays), seed, 500, WORK);
+    compare("translate 4,096 bytes", s, (texts, texts), seed, 20, 1);
+}

@@ -1,0 +1,177 @@
+//! What only the C boundary can get wrong: bytes beside a lent buffer, buffers that are only
+//! read, and the bits of a watch's numbers.
+
+use crate::driver::{hold, stop};
+use crate::fence::{Fence, Side};
+use crate::library::{raw_acknowledge, raw_sample, Library};
+use crate::model::{self, Plan, Watch};
+use crate::random::{Draft, Random};
+use crate::subject::Subject;
+use std::fmt::Debug;
+
+struct Ground {
+    read: Fence,
+    written: Fence,
+    calls: u64,
+}
+
+impl Ground {
+    /// One call on two fenced buffers: the first is only read, the second may be written. Answer
+    /// and buffers must be those of the model.
+    fn call<A: PartialEq + Debug>(
+        &mut self, what: &str, side: Side, read: &[u8], written: &[u8],
+        model: impl Fn(&[u8], &mut [u8]) -> A, ask: impl Fn(&[u8], &mut [u8]) -> A,
+    ) {
+        let mut after = written.to_vec();
+        let want = model(read, &mut after);
+        let got = ask(self.read.lend(side, read), self.written.lend(side, written));
+        self.calls += 1;
+        let inputs = (read, written);
+        if got != want {
+            stop(what, &inputs, &want, &got);
+        }
+        let held = self.read.holds(side, read.len());
+        hold(held == read, "a buffer that is only read holds what it held", &(what, inputs));
+        let held = self.written.holds(side, written.len());
+        hold(held == after, "the lent buffer afterwards", &(what, inputs));
+    }
+}
+
+/// All parts; the number of calls.
+pub fn run(seed: u64, rounds: usize) -> u64 {
+    let r = &mut Random::new(seed ^ 0xB0);
+    let mut g = Ground { read: Fence::new(), written: Fence::new(), calls: 0 };
+    for round in 0..20_000 * rounds {
+        let side = if round % 2 == 0 { Side::Upper } else { Side::Lower };
+        images(&mut g, r, side);
+        plans(&mut g, r, side);
+        if round % 40 < 2 {
+            texts(&mut g, r, side);
+        }
+    }
+    longest(&mut g, r);
+    g.calls + watches()
+}
+
+fn images(g: &mut Ground, r: &mut Random, side: Side) {
+    let (chip, address, byte) = (r.chip(), r.byte(), r.byte());
+    let image = r.image(chip);
+    let s = &Library;
+    g.call(
+        "write", side, &[], &image,
+        |_, to| model::write(chip, to, address, byte),
+        |_, to| s.write(chip, to, address, byte),
+    );
+    g.call("reset", side, &[], &image, |_, to| model::reset(chip, to), |_, to| s.reset(chip, to));
+    g.call(
+        "read", side, &image, &[],
+        |from, _| model::read(chip, from, address),
+        |from, _| s.read(chip, from, address),
+    );
+    g.call("identity", side, &image, &[], |from, _| model::identity(chip, from), |from, _| s.identity(chip, from));
+    let table = r.table();
+    g.call(
+        "asked_of_image", side, &image, &[],
+        |from, _| model::asked_of_image(chip, table, from, byte),
+        |from, _| s.asked_of_image(chip, table, from, byte),
+    );
+}
+
+fn plans(g: &mut Ground, r: &mut Random, side: Side) {
+    let draft = r.plan();
+    let (chip, table, t, count) = (draft.chip, draft.table, r.byte(), r.below(27));
+    let s = &Library;
+    let record = r.record();
+    g.call("read_record", side, &record, &[], |from, _| model::read_record(from), |from, _| s.read_record(from));
+    g.call(
+        "asked_of_plan", side, &draft.body, &[],
+        |body, _| model::asked_of_plan(Plan { chip, table, body }, t),
+        |body, _| s.asked_of_plan(Plan { chip, table, body }, t),
+    );
+    let out = vec![r.byte(); r.length()];
+    g.call(
+        "write_record", side, &draft.body, &out,
+        |body, to| model::write_record(Plan { chip, table, body }, to),
+        |body, to| s.write_record(Plan { chip, table, body }, to),
+    );
+    g.call(
+        "script", side, &draft.body, &out,
+        |body, to| model::script(Plan { chip, table, body }, to),
+        |body, to| s.script(Plan { chip, table, body }, to),
+    );
+    let image = r.image(chip);
+    g.call(
+        "play", side, &draft.body, &image,
+        |body, to| model::play(Plan { chip, table, body }, to, count),
+        |body, to| s.play(Plan { chip, table, body }, to, count),
+    );
+}
+
+/// "An output longer than the result keeps its tail": outputs that are exact, one byte short
+/// and longer.
+fn texts(g: &mut Ground, r: &mut Random, side: Side) {
+    let length = if r.once_in(9) { 4090 + r.below(12) } else { r.length() };
+    let input = r.input(length);
+    let mut text = vec![0; 65536];
+    let length = model::translate(&input, &mut text).1;
+    for space in [length - 1, length, length + 1 + r.below(99)] {
+        g.call(
+            "translate", side, &input, &vec![r.byte(); space],
+            |from, to| model::translate(from, to),
+            |from, to| Library.translate(from, to),
+        );
+    }
+}
+
+/// The longest text that we know of (YK_TEXT_MAX of the header is a proved bound above it). The text of a record is 78 bytes and a line for chip 1, 144 and a
+/// line for chip 2, so most of the longest text is of chip 2: 2 records of chip 1, 226 of chip 2
+/// and two more bytes, which are refused.
+fn longest(g: &mut Ground, r: &mut Random) {
+    let mut input = Vec::new();
+    for k in 0..228 {
+        let chip = if k < 2 { 1 } else { 2 };
+        input.extend(Draft { chip, table: 1, body: r.ordered(chip) }.record());
+    }
+    input.extend([0x43, 0x50]);
+    hold(input.len() == model::INPUT, "4,096 bytes", &input.len());
+    let length = model::translate(&input, &mut vec![0; 65536]).1;
+    hold(length == 40_363, "the longest text", &length);
+    for space in [length - 1, length] {
+        g.call(
+            "translate", Side::Upper, &input, &vec![0xEE; space],
+            |from, to| model::translate(from, to),
+            |from, to| Library.translate(from, to),
+        );
+    }
+}
+
+/// Behaviour "0 default, 1 one-time, any other comparator"; of the facts only bits 0 and 1 count.
+/// Every behaviour with every byte of facts, at samples that do all there is to do.
+fn watches() -> u64 {
+    let mut calls = 0;
+    let packed = |refusal: u32, watch: Watch| {
+        let value = u64::from(watch.hot) + 2 * u64::from(watch.pending) + 4 * u64::from(model::output(watch));
+        u64::from(refusal) + 256 * value
+    };
+    for behaviour in 0..=255 {
+        for facts in 0..=255u8 {
+            let watch = Watch { behaviour, hot: facts & 1 != 0, pending: facts & 2 != 0 };
+            let want = packed(0, model::acknowledge(watch));
+            let got = raw_acknowledge(behaviour, facts);
+            if got != want {
+                stop("acknowledge", &(behaviour, facts), &want, &got);
+            }
+            for steps in [-32768, -2049, -2048, 1199, 1200, 1280, 1281, 2047, 2048, 32767] {
+                let (refusal, after) = model::sample(watch, steps, 80, 75);
+                let want = packed(refusal, after);
+                let got = raw_sample(behaviour, facts, steps, 80, 75);
+                if got != want {
+                    stop("sample", &(behaviour, facts, steps), &want, &got);
+                }
+                calls += 1;
+            }
+            calls += 1;
+        }
+    }
+    calls
+}

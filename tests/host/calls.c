@@ -1,0 +1,92 @@
+/* Every function once or more through include/yerkhulbaz.h, at figures of the rules paper: the
+ * prototypes are those of the library. */
+#include "yerkhulbaz.h"
+
+#include <stdio.h>
+#include <string.h>
+
+static int failed = 0;
+
+static void same(const char *what, uint64_t got, uint64_t want) {
+    if (got != want) {
+        printf("calls: %s is %lu, not %lu\n", what, (unsigned long)got, (unsigned long)want);
+        failed = 1;
+    }
+}
+
+/* An answer: refusal + 256 * value. */
+static uint64_t packed(uint64_t refusal, uint64_t value) {
+    return refusal + 256 * value;
+}
+
+/* The paper's example, and its text. */
+static const uint8_t record[13] = {0x43, 0x50, 0x01, 0x03, 0x1E, 0x28, 0x32,
+                                   0x37, 0x3C, 0x8C, 0xAA, 0xC8, 0xE6};
+static const char text[] = "plan 1 chip 1 table 3 writes 13\n"
+                           "A5 FF\nA6 FF\nA7 FF\nA8 FF\nA0 1E\nA1 28\nA2 32\nA3 37\nA4 3C\n"
+                           "A5 8C\nA6 AA\nA7 C8\nA8 E6\nend 1\n";
+
+int main(void) {
+    uint8_t image[YK_IMAGE], out[256];
+    const uint8_t *body = record + 4;
+    uint64_t answer;
+    size_t length = sizeof text - 1;
+
+    /* "Chip 2, 34h bits 0 and 1 clear on one"; "91h mask 0Fh". */
+    memset(image, 0xFF, sizeof image);
+    same("write", yk_write(2, image, YK_IMAGE, 0x34, 0x01), 0);
+    same("the byte at 34h", image[0x34], 0xFE);
+    same("write", yk_write(2, image, YK_IMAGE, 0x91, 0xA5), 0);
+    same("read", yk_read(2, image, YK_IMAGE, 0x91), packed(0, 0xF5));
+    same("read of a short image", yk_read(2, image, 255, 0x91), YK_REFUSED_IMAGE);
+    /* "A3h to A8h power-on 37h, 3Ch, 8Ch, AAh, C8h, E6h." */
+    same("reset", yk_reset(1, image, YK_IMAGE), 0);
+    same("the bytes at A3h", (uint64_t)memcmp(image + 0xA3, "\x37\x3C\x8C\xAA\xC8\xE6", 6), 0);
+    same("identity of chip 2", yk_identity(2, image, YK_IMAGE), YK_REFUSED_IDENTITY);
+    image[0xFD] = 0x50;
+    image[0xFE] = 0xC3;
+    image[0xFF] = 0x20;
+    image[0x05] = image[0x08] = 0;
+    same("identity of chip 1", yk_identity(1, image, YK_IMAGE), 0);
+
+    /* "Width 11: E7A0h is -195." "256 is refused 12, 255 and -256 fit", at width 9. */
+    answer = yk_steps(11, 0xE7, 0xA0);
+    same("steps", (uint64_t)(yk_steps_value(answer) == -195), 1);
+    same("steps of width 10", yk_steps(10, 0xE7, 0xA0), YK_REFUSED_WIDTH);
+    same("bytes", yk_bytes(9, -110), packed(0, 0xC900));
+    same("bytes of 256", yk_bytes(9, 256), YK_REFUSED_STEPS);
+    same("microvolts", yk_microvolts(0xFFC0), packed(0, 2557500));
+
+    /* "Limits 80 and 75 degrees, samples of 81, 78, acknowledge, 78 degrees." */
+    answer = yk_sample(YK_ONE_TIME, 0, 1296, 80, 75);
+    same("sample of 81", answer, packed(0, 1 + 2 + 4));
+    answer = yk_acknowledge(YK_ONE_TIME, yk_facts(answer));
+    same("acknowledge", answer, packed(0, 1));
+    same("sample of 78", yk_sample(YK_ONE_TIME, yk_facts(answer), 1248, 80, 75), packed(0, 1));
+    same("the same in default", yk_sample(YK_DEFAULT, yk_facts(answer), 1248, 80, 75), packed(0, 7));
+    same("in comparator", yk_sample(YK_COMPARATOR, yk_facts(answer), 1248, 80, 75), packed(0, 5));
+    same("refused", yk_sample(YK_COMPARATOR, 1, 2048, 80, 75), packed(12, 5));
+    same("exactly 75", yk_sample(YK_COMPARATOR, 1, 1200, 80, 75), packed(0, 5));
+    same("below 75", yk_sample(YK_COMPARATOR, 1, 1199, 80, 75), packed(0, 0));
+
+    /* The example: read, written again, asked, as script, played, translated. */
+    same("record", yk_read_record(record, sizeof record), packed(0, 13 + 256 * 1 + 65536 * 3));
+    same("cut record", yk_read_record(record, 12), YK_REFUSED_CUT_SHORT);
+    memset(out, 0xEE, sizeof out);
+    same("written", yk_write_record(1, 3, body, YK_BODY_CHIP_1, out, sizeof out), packed(0, 13));
+    same("its bytes", (uint64_t)memcmp(out, record, 13), 0);
+    same("its tail", out[13], 0xEE);
+    same("short output", yk_write_record(1, 3, body, YK_BODY_CHIP_1, out, 12), YK_REFUSED_OUTPUT);
+    same("asked at 45", yk_asked_of_plan(1, 3, body, YK_BODY_CHIP_1, 45), packed(0, 185));
+    same("script", yk_script(1, 3, body, YK_BODY_CHIP_1, out, 26), packed(0, 13));
+    same("its first and last write", (uint64_t)(memcmp(out, "\xA5\xFF", 2) | memcmp(out + 24, "\xA8\xE6", 2)), 0);
+    same("play of 4", yk_play(1, 3, body, YK_BODY_CHIP_1, image, YK_IMAGE, 4), packed(0, 4));
+    same("asked at -128", yk_asked_of_image(1, 3, image, YK_IMAGE, 0x80), packed(0, 255));
+    same("play", yk_play(1, 3, body, YK_BODY_CHIP_1, image, YK_IMAGE, 14), packed(0, 13));
+    same("asked at 53", yk_asked_of_image(1, 3, image, YK_IMAGE, 53), packed(0, 218));
+    same("the table", (uint64_t)memcmp(image + 0xA0, body, YK_BODY_CHIP_1), 0);
+    same("text", yk_translate(record, sizeof record, out, sizeof out), packed(0, length));
+    same("its bytes", (uint64_t)memcmp(out, text, length), 0);
+    same("short text", yk_translate(record, sizeof record, out, length - 1), YK_REFUSED_OUTPUT);
+    return failed;
+}

@@ -1,0 +1,225 @@
+//! One compared call per function: the model and the subject get the same inputs and equal
+//! copies of each lent buffer; answers and buffers must be equal afterwards.
+
+use crate::model::{self, Plan, Watch, BODY};
+use crate::subject::Subject;
+use std::fmt::{Debug, Formatter, Result};
+use std::panic::{catch_unwind, AssertUnwindSafe};
+
+pub const NAMES: [&str; 18] = [
+    "write", "read", "reset", "identity", "steps_of", "bytes_of", "microvolts", "sample",
+    "acknowledge", "output", "judge", "asked_of_plan", "asked_of_image", "read_record",
+    "write_record", "script", "play", "translate",
+];
+
+pub struct Driver<'a, S: Subject> {
+    subject: &'a S,
+    pub calls: [u64; 18],
+}
+
+/// Prints what is known and ends the run.
+pub fn stop(what: &str, inputs: &dyn Debug, want: &dyn Debug, got: &dyn Debug) -> ! {
+    println!("host: disagreement in {}", what);
+    println!("inputs: {:02X?}", inputs);
+    println!("model: {:?}", want);
+    println!("library: {:?}", got);
+    std::process::exit(1);
+}
+
+/// A fact that the paper states and that must hold of an agreed answer.
+pub fn hold(fact: bool, what: &str, inputs: &dyn Debug) {
+    if !fact {
+        println!("host: not so: {}", what);
+        println!("inputs: {:02X?}", inputs);
+        std::process::exit(1);
+    }
+}
+
+/// A lent buffer as it is printed: whole up to 320 bytes, else its length and first bytes.
+struct Lent<'a>(&'a [u8]);
+
+impl Debug for Lent<'_> {
+    fn fmt(&self, f: &mut Formatter) -> Result {
+        let shown = &self.0[..self.0.len().min(320)];
+        write!(f, "lent {} bytes: {:02X?}", self.0.len(), shown)
+    }
+}
+
+impl<'a, S: Subject> Driver<'a, S> {
+    pub fn new(subject: &'a S) -> Self {
+        Driver { subject, calls: [0; 18] }
+    }
+
+    pub fn total(&self) -> u64 {
+        self.calls.iter().sum()
+    }
+
+    /// A call without a lent buffer; the subject's panic is a disagreement too.
+    fn agree<A: PartialEq + Debug>(
+        &mut self, which: usize, inputs: &dyn Debug, want: A, ask: impl FnOnce(&S) -> A,
+    ) -> A {
+        self.calls[which] += 1;
+        match catch_unwind(AssertUnwindSafe(|| ask(self.subject))) {
+            Err(_) => stop(NAMES[which], inputs, &want, &"no answer: it panicked"),
+            Ok(got) if got != want => stop(NAMES[which], inputs, &want, &got),
+            Ok(_) => want,
+        }
+    }
+
+    /// The same with a refusal; `zero` is what the answer's other parts are then.
+    fn plain<A: PartialEq + Debug>(
+        &mut self, which: usize, inputs: &dyn Debug, zero: A, want: (u32, A),
+        ask: impl FnOnce(&S) -> (u32, A),
+    ) -> (u32, A) {
+        let answer = self.agree(which, inputs, want, ask);
+        if answer.0 != 0 && answer.1 != zero {
+            stop("zero in every other part", inputs, &zero, &answer);
+        }
+        answer
+    }
+
+    /// A call with a lent buffer. The model works on the buffer itself.
+    fn lent(
+        &mut self, which: usize, buffer: &mut [u8], inputs: &dyn Debug,
+        model: impl FnOnce(&mut [u8]) -> (u32, usize),
+        ask: impl FnOnce(&S, &mut [u8]) -> (u32, usize),
+    ) -> (u32, usize) {
+        let before = buffer.to_vec();
+        let mut theirs = buffer.to_vec();
+        let want = model(buffer);
+        let all = (inputs, Lent(&before));
+        let answer = self.plain(which, &all, 0, want, |subject| ask(subject, &mut theirs));
+        for (k, (want, got)) in buffer.iter().zip(&theirs).enumerate() {
+            if want != got {
+                let all = (inputs, Lent(&before), "the lent buffer afterwards, at", k);
+                stop(NAMES[which], &all, &Lent(&buffer[k..]), &Lent(&theirs[k..]));
+            }
+        }
+        if answer.0 != 0 && before != theirs {
+            stop("each lent buffer holds what it held", &all, &answer, &Lent(&theirs));
+        }
+        answer
+    }
+
+    pub fn write(&mut self, chip: u8, image: &mut [u8], address: u8, byte: u8) -> u32 {
+        self.lent(
+            0, image, &(chip, address, byte),
+            |lent| (model::write(chip, lent, address, byte), 0),
+            |subject, lent| (subject.write(chip, lent, address, byte), 0),
+        ).0
+    }
+
+    pub fn read(&mut self, chip: u8, image: &[u8], address: u8) -> (u32, u8) {
+        let want = model::read(chip, image, address);
+        self.plain(1, &(chip, image, address), 0, want, |s| s.read(chip, image, address))
+    }
+
+    pub fn reset(&mut self, chip: u8, image: &mut [u8]) -> u32 {
+        self.lent(
+            2, image, &chip,
+            |lent| (model::reset(chip, lent), 0),
+            |subject, lent| (subject.reset(chip, lent), 0),
+        ).0
+    }
+
+    pub fn identity(&mut self, chip: u8, image: &[u8]) -> u32 {
+        let want = model::identity(chip, image);
+        self.agree(3, &(chip, image), want, |s| s.identity(chip, image))
+    }
+
+    pub fn steps_of(&mut self, width: u8, high: u8, low: u8) -> (u32, i16) {
+        let want = model::steps_of(width, high, low);
+        self.plain(4, &(width, high, low), 0, want, |s| s.steps_of(width, high, low))
+    }
+
+    pub fn bytes_of(&mut self, width: u8, steps: i16) -> (u32, u8, u8) {
+        let pack = |(refusal, high, low): (u32, u8, u8)| (refusal, [high, low]);
+        let want = pack(model::bytes_of(width, steps));
+        let (refusal, [high, low]) =
+            self.plain(5, &(width, steps), [0, 0], want, |s| pack(s.bytes_of(width, steps)));
+        (refusal, high, low)
+    }
+
+    pub fn microvolts(&mut self, word: u16) -> u32 {
+        self.agree(6, &word, model::microvolts(word), |s| s.microvolts(word))
+    }
+
+    /// "A refused sample changes neither fact."
+    pub fn sample(&mut self, watch: Watch, steps: i16, high: i8, hysteresis: i8) -> (u32, Watch) {
+        let (refusal, after) = model::sample(watch, steps, high, hysteresis);
+        let want = (refusal, (after, model::output(after)));
+        let inputs = (watch, steps, high, hysteresis);
+        let answer = self.plain(7, &inputs, (watch, model::output(watch)), want, |s| {
+            let (refusal, after, output) = s.sample(watch, steps, high, hysteresis);
+            (refusal, (after, output))
+        });
+        (answer.0, answer.1 .0)
+    }
+
+    pub fn acknowledge(&mut self, watch: Watch) -> Watch {
+        let after = model::acknowledge(watch);
+        self.agree(8, &watch, (after, model::output(after)), |s| s.acknowledge(watch)).0
+    }
+
+    pub fn output(&mut self, watch: Watch) -> bool {
+        self.agree(9, &watch, model::output(watch), |s| s.output(watch))
+    }
+
+    pub fn judge(&mut self, plan: Plan) -> u32 {
+        self.agree(10, &plan, model::judge(plan), |s| s.judge(plan))
+    }
+
+    pub fn asked_of_plan(&mut self, plan: Plan, t: u8) -> (u32, u16) {
+        let want = model::asked_of_plan(plan, t);
+        self.plain(11, &(plan, t), 0, want, |s| s.asked_of_plan(plan, t))
+    }
+
+    pub fn asked_of_image(&mut self, chip: u8, table: u8, image: &[u8], t: u8) -> (u32, u16) {
+        let want = model::asked_of_image(chip, table, image, t);
+        let inputs = (chip, table, image, t);
+        self.plain(12, &inputs, 0, want, |s| s.asked_of_image(chip, table, image, t))
+    }
+
+    pub fn read_record(&mut self, bytes: &[u8]) -> (u32, u8, u8, [u8; BODY], usize) {
+        let pack = |(r, chip, table, body, used): (u32, u8, u8, [u8; BODY], usize)| {
+            (r, (chip, table, body, used))
+        };
+        let want = pack(model::read_record(bytes));
+        let zero = (0, 0, [0; BODY], 0);
+        let (refusal, (chip, table, body, used)) =
+            self.plain(13, &bytes, zero, want, |s| pack(s.read_record(bytes)));
+        (refusal, chip, table, body, used)
+    }
+
+    pub fn write_record(&mut self, plan: Plan, out: &mut [u8]) -> (u32, usize) {
+        self.lent(
+            14, out, &plan,
+            |lent| model::write_record(plan, lent),
+            |subject, lent| subject.write_record(plan, lent),
+        )
+    }
+
+    pub fn script(&mut self, plan: Plan, out: &mut [u8]) -> (u32, usize) {
+        self.lent(
+            15, out, &plan,
+            |lent| model::script(plan, lent),
+            |subject, lent| subject.script(plan, lent),
+        )
+    }
+
+    pub fn play(&mut self, plan: Plan, image: &mut [u8], count: usize) -> (u32, usize) {
+        self.lent(
+            16, image, &(plan, count),
+            |lent| model::play(plan, lent, count),
+            |subject, lent| subject.play(plan, lent, count),
+        )
+    }
+
+    pub fn translate(&mut self, input: &[u8], out: &mut [u8]) -> (u32, usize) {
+        self.lent(
+            17, out, &input,
+            |lent| model::translate(input, lent),
+            |subject, lent| subject.translate(input, lent),
+        )
+    }
+}

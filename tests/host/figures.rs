@@ -1,0 +1,209 @@
+//! Every figure of the paper, asked of model and subject at once: the fixed points of the
+//! cards, "Figures to check against", the example text and "Mistakes we made or nearly made".
+
+use crate::cards::{F75373S, NCT7802Y, NCT80};
+use crate::driver::{hold, Driver};
+use crate::model::{Plan, Watch, IMAGE};
+use crate::subject::Subject;
+use crate::tests::{power_on, never_slower};
+
+/// The bytes of the paper's example.
+const EXAMPLE: [u8; 13] = [
+    0x43, 0x50, 0x01, 0x03, 0x1E, 0x28, 0x32, 0x37, 0x3C, 0x8C, 0xAA, 0xC8, 0xE6,
+];
+
+const TEXT: &str = "plan 1 chip 1 table 3 writes 13\nA5 FF\nA6 FF\nA7 FF\nA8 FF\nA0 1E\nA1 28\n\
+A2 32\nA3 37\nA4 3C\nA5 8C\nA6 AA\nA7 C8\nA8 E6\nend 1\n";
+
+pub fn run<S: Subject>(d: &mut Driver<S>) {
+    cards(d);
+    identities(d);
+    readings(d);
+    watches(d);
+    speeds(d);
+    records(d);
+    half_loaded(d);
+}
+
+/// Mask, clear mask and power-on byte of a row, found from outside by resets and writes.
+fn row<S: Subject>(d: &mut Driver<S>, chip: u8, address: u8) -> (u8, u8, u8) {
+    let at = usize::from(address);
+    let mut image = [0xFF; IMAGE];
+    d.write(chip, &mut image, address, 0x00);
+    let mask = !image[at];
+    let mut image = [0xFF; IMAGE];
+    d.write(chip, &mut image, address, 0xFF);
+    let clears = !image[at];
+    let mut image = [0x5A; IMAGE];
+    d.reset(chip, &mut image);
+    (mask, clears, image[at])
+}
+
+/// "Fixed points for review", then every row of every card.
+fn cards<S: Subject>(d: &mut Driver<S>) {
+    let mut point = |chip: u8, address: u8, want: (Option<u8>, Option<u8>, Option<u8>)| {
+        let (mask, clears, power_on) = row(d, chip, address);
+        let is = |want: Option<u8>, got: u8| want.map_or(true, |want| want == got);
+        let good = is(want.0, mask) && is(want.1, clears) && is(want.2, power_on);
+        hold(good, "fixed points for review", &(chip, address, mask, clears, power_on));
+    };
+    // "Chip 1, 54h and 56h mask 3Fh, power-on 3Fh; 55h and 57h mask 3Fh, power-on 00h; A3h to
+    // A8h power-on 37h, 3Ch, 8Ch, AAh, C8h, E6h."
+    for (address, power_on) in [(0x54, 0x3F), (0x55, 0), (0x56, 0x3F), (0x57, 0)] {
+        point(1, address, (Some(0x3F), None, Some(power_on)));
+    }
+    for (address, power_on) in (0xA3..).zip([0x37, 0x3C, 0x8C, 0xAA, 0xC8, 0xE6]) {
+        point(1, address, (None, None, Some(power_on)));
+    }
+    // "Chip 2, 34h bits 0 and 1 clear on one; 36h and 92h read only; 91h mask 0Fh; A0h, A1h,
+    // A2h power-on 3Ch, 32h, 28h."
+    point(2, 0x34, (None, Some(0x03), None));
+    point(2, 0x36, (Some(0), Some(0), None));
+    point(2, 0x92, (Some(0), Some(0), None));
+    point(2, 0x91, (Some(0x0F), None, None));
+    for (address, power_on) in (0xA0..).zip([0x3C, 0x32, 0x28]) {
+        point(2, address, (None, None, Some(power_on)));
+    }
+    // "Chip 3, 00h mask FFh, power-on 08h; 01h read only; 09h mask 07h."
+    point(3, 0x00, (Some(0xFF), None, Some(0x08)));
+    point(3, 0x01, (Some(0), Some(0), None));
+    point(3, 0x09, (Some(0x07), None, None));
+    // "All fan table registers have mask FFh."
+    for (chip, base, length) in [(1, 0x80, 9), (1, 0x90, 9), (1, 0xA0, 9), (2, 0xA0, 14), (2, 0xB0, 14)] {
+        for address in base..base + length {
+            point(chip, address, (Some(0xFF), Some(0), None));
+        }
+    }
+    // The two settled rows.
+    point(1, 0x6D, (Some(0x0F), Some(0), Some(0)));
+    point(2, 0x32, (Some(0xFF), Some(0), Some(0)));
+    // "In each row the two masks share no bit."
+    for (chip, card) in (1..).zip([&NCT7802Y, &F75373S, &NCT80]) {
+        for address in 0..=255 {
+            let (mask, clears, power_on) = card[usize::from(address)];
+            hold(mask & clears == 0, "the two masks share no bit", &(chip, address));
+            point(chip, address, (Some(mask), Some(clears), Some(power_on)));
+        }
+    }
+}
+
+fn identities<S: Subject>(d: &mut Driver<S>) {
+    for (chip, want) in [(1, 0), (2, 0), (3, 10)] {
+        let image = power_on(d, chip);
+        hold(d.identity(chip, &image) == want, "identity at power-on", &chip);
+    }
+    // "Treating the fourth identity byte as optional."
+    let mut image = power_on(d, 2);
+    image[0x5E] = 0x35;
+    hold(d.identity(2, &image) == 10, "the fourth identity byte", &image);
+}
+
+fn readings<S: Subject>(d: &mut Driver<S>) {
+    // "Width 12: 7D00h is 2000, FFF0h is -1, C900h is -880. Width 9: C900h is -110. Width 11:
+    // E7A0h is -195." Then a negative that does not divide: not towards zero, not magnitude.
+    let words: [(u8, u16, i16); 9] = [
+        (12, 0x7D00, 2000), (12, 0xFFF0, -1), (12, 0xC900, -880), (9, 0xC900, -110),
+        (11, 0xE7A0, -195), (8, 0xFFFF, -1), (8, 0xC980, -55), (12, 0x8000, -2048), (9, 0xFF81, -1),
+    ];
+    for (width, word, want) in words {
+        let [high, low] = word.to_be_bytes();
+        hold(d.steps_of(width, high, low) == (0, want), "temperature figures", &(width, word));
+    }
+    // "32 steps at width 9 fit; 256 is refused 12, 255 and -256 fit."
+    for (steps, want) in [(32, 0), (256, 12), (255, 0), (-256, 0), (-257, 12)] {
+        hold(d.bytes_of(9, steps).0 == want, "steps at width 9", &steps);
+    }
+    hold(d.microvolts(0xFFC0) == 1023 * 2500, "a full voltage word", &0xFFC0);
+    hold(d.microvolts(0x007F) == 2500, "bits 15 to 6", &0x007F);
+}
+
+fn watches<S: Subject>(d: &mut Driver<S>) {
+    // "Limits 80 and 75 degrees, samples of 81, 78, acknowledge, 78 degrees (1296, 1248, 1248
+    // steps): in default and one-time pending is on, on, off, then on in default and off in
+    // one-time." In comparator pending never goes on and the output is hot.
+    let wanted = [[true, true, false, true], [true, true, false, false], [false; 4]];
+    for (behaviour, want) in (0..).zip(wanted) {
+        let first = Watch { behaviour, hot: false, pending: false };
+        let a = d.sample(first, 1296, 80, 75).1;
+        let b = d.sample(a, 1248, 80, 75).1;
+        let c = d.acknowledge(b);
+        let e = d.sample(c, 1248, 80, 75).1;
+        for (watch, pending) in [a, b, c, e].iter().zip(want) {
+            hold(watch.pending == pending && watch.hot, "pending in the figure", watch);
+            let output = if behaviour == 2 { true } else { pending };
+            hold(d.output(*watch) == output, "output in the figure", watch);
+        }
+        // "Exactly 80 doesn't turn hot on; exactly 75 doesn't turn it off."
+        hold(!d.sample(first, 1280, 80, 75).1.hot, "exactly 80", &first);
+        hold(d.sample(first, 1281, 80, 75).1.hot, "above 80", &first);
+        hold(d.sample(a, 1200, 80, 75).1.hot, "exactly 75", &a);
+        hold(!d.sample(a, 1199, 80, 75).1.hot, "below 75", &a);
+        hold(d.sample(a, 2048, 80, 75) == (12, a), "a refused sample", &a);
+    }
+}
+
+fn speeds<S: Subject>(d: &mut Driver<S>) {
+    // "The plan above asks 140 at 30, 149 at 33, 185 at 45, 218 at 53, 230 at 58, 255 at 60."
+    let plan = Plan { chip: 1, table: 3, body: &EXAMPLE[4..] };
+    for (t, want) in [(30, 140), (33, 149), (45, 185), (53, 218), (58, 230), (60, 255)] {
+        hold(d.asked_of_plan(plan, t) == (0, want), "duties of the example", &t);
+    }
+    // "Unordered T1 = 50, T2 = 40 and critical 100: at 45 the duty is FL1."
+    let plan = Plan { chip: 1, table: 1, body: &[50, 40, 60, 70, 100, 11, 22, 33, 44] };
+    hold(d.asked_of_plan(plan, 45) == (0, 11), "unordered plan", &plan);
+    // "FL1 = 200, FL2 = 100, T1 = 0, T2 = 3, critical 100: at 1 the duty is 166"; not 167.
+    let plan = Plan { chip: 1, table: 1, body: &[0, 3, 10, 20, 100, 200, 100, 100, 100] };
+    hold(d.asked_of_plan(plan, 1) == (0, 166), "falling duty", &plan);
+    // "B1 = 60, B2 = 50: 61 asks C1, 60 and 51 ask C2."
+    let plan = Plan { chip: 2, table: 1, body: &[60, 50, 40, 30, 1, 2, 3, 4, 5, 6, 7, 8, 9, 10] };
+    for (t, want) in [(61, 0x0102), (60, 0x0304), (51, 0x0304), (50, 0x0506), (0, 0x090A)] {
+        hold(d.asked_of_plan(plan, t) == (0, want), "counts at the boundaries", &t);
+    }
+}
+
+fn records<S: Subject>(d: &mut Driver<S>) {
+    let (refusal, chip, table, body, used) = d.read_record(&EXAMPLE);
+    hold((refusal, chip, table, used) == (0, 1, 3, 13), "the example's record", &EXAMPLE);
+    let mut out = [0; 300];
+    let plan = Plan { chip, table, body: &body };
+    hold(d.write_record(plan, &mut out) == (0, 13), "13 bytes", &plan);
+    hold(out[..13] == EXAMPLE, "the example written again", &plan);
+    hold(d.script(plan, &mut out) == (0, 13), "13 writes", &plan);
+    let two = Plan { chip: 2, table: 2, body: &[4, 3, 2, 1, 0, 0, 0, 1, 0, 1, 1, 0, 255, 255] };
+    hold(d.write_record(two, &mut out) == (0, 18), "18 bytes", &two);
+    hold(d.script(two, &mut out) == (0, 24), "24 writes", &two);
+    for (input, text) in [(&EXAMPLE[..], TEXT), (&[][..], "end 0\n"), (&[0; 4097][..], "input too long\n")] {
+        let (refusal, length) = d.translate(input, &mut out);
+        hold(refusal == 0 && &out[..length] == text.as_bytes(), text, &input);
+    }
+    let refused = [(&EXAMPLE[..3], 1), (&[0x43, 0x51, 9, 9], 2), (&[0x43, 0x50, 9, 9], 3),
+        (&[0x43, 0x50, 3, 1], 4), (&EXAMPLE[..12], 5)];
+    for (input, refusal) in refused {
+        hold(d.read_record(input).0 == refusal, "the refusal table", &input);
+        let (_, length) = d.translate(input, &mut out);
+        let text = format!("plan 1 refused {}\n", refusal);
+        hold(&out[..length] == text.as_bytes(), &text, &input);
+    }
+}
+
+/// The two mistakes about order, and that the check for them would have found them.
+fn half_loaded<S: Subject>(d: &mut Driver<S>) {
+    // "Writing temperatures before the duties are raised: a half-loaded curve may ask less than
+    // either."
+    let old = power_on(d, 1);
+    let plan = Plan { chip: 1, table: 3, body: &[35, 45, 55, 65, 75, 0x8C, 0xDC, 0xF0, 0xFA] };
+    let mut out = [0; 48];
+    let (_, writes) = d.script(plan, &mut out);
+    hold(never_slower(d, plan, &old, &out[..2 * writes]), "the script of chip 1", &plan);
+    let wrong: Vec<u8> = (0..9).flat_map(|k| [0xA0 + k, plan.body[usize::from(k)]]).collect();
+    hold(!never_slower(d, plan, &old, &wrong), "temperatures first are found out", &plan);
+    // "Lowering a count from its low byte with the old high byte still there: 0200h to 01FFh
+    // passes 02FFh."
+    let mut old = power_on(d, 2);
+    let counts = [2, 0, 2, 0, 2, 0, 2, 0, 2, 0];
+    old[0xA4..0xAE].copy_from_slice(&counts);
+    let plan = Plan { chip: 2, table: 1, body: &[60, 50, 40, 30, 1, 255, 1, 255, 1, 255, 1, 255, 1, 255] };
+    let (_, writes) = d.script(plan, &mut out);
+    hold(never_slower(d, plan, &old, &out[..2 * writes]), "the script of chip 2", &plan);
+    hold(!never_slower(d, plan, &old, &[0xA5, 0xFF, 0xA4, 0x01]), "low byte first is found out", &plan);
+}

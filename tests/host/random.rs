@@ -1,0 +1,273 @@
+//! A small seeded generator (xorshift) and the drafts it makes: boundary values come often.
+
+use crate::model::{self, Plan, IMAGE};
+
+const BYTES: [u8; 6] = [0, 1, 127, 128, 254, 255];
+const LENGTHS: [usize; 15] = [0, 3, 4, 12, 13, 17, 18, 25, 26, 47, 48, 255, 256, 257, 300];
+
+pub struct Random(u64);
+
+/// A plan that owns its body.
+#[derive(Clone, Debug)]
+pub struct Draft {
+    pub chip: u8,
+    pub table: u8,
+    pub body: Vec<u8>,
+}
+
+impl Draft {
+    pub fn plan(&self) -> Plan<'_> {
+        Plan { chip: self.chip, table: self.table, body: &self.body }
+    }
+
+    /// The record of these bytes, whatever they are: mark, chip, table, body.
+    pub fn record(&self) -> Vec<u8> {
+        let mut bytes = vec![0x43, 0x50, self.chip, self.table];
+        bytes.extend_from_slice(&self.body);
+        bytes
+    }
+}
+
+impl Random {
+    pub fn new(seed: u64) -> Random {
+        Random(seed.wrapping_mul(0x9E37_79B9_7F4A_7C15).max(1))
+    }
+
+    pub fn next(&mut self) -> u64 {
+        self.0 ^= self.0 << 13;
+        self.0 ^= self.0 >> 7;
+        self.0 ^= self.0 << 17;
+        self.0
+    }
+
+    pub fn below(&mut self, end: usize) -> usize {
+        ((self.next() >> 16) % end as u64) as usize
+    }
+
+    /// Once in `times` on average.
+    pub fn once_in(&mut self, times: usize) -> bool {
+        self.below(times) == 0
+    }
+
+    pub fn byte(&mut self) -> u8 {
+        if self.once_in(3) {
+            BYTES[self.below(BYTES.len())]
+        } else {
+            (self.next() >> 24) as u8
+        }
+    }
+
+    pub fn bytes(&mut self, length: usize) -> Vec<u8> {
+        (0..length).map(|_| self.byte()).collect()
+    }
+
+    pub fn length(&mut self) -> usize {
+        if self.once_in(2) {
+            LENGTHS[self.below(LENGTHS.len())]
+        } else {
+            self.below(301)
+        }
+    }
+
+    /// Mostly a good chip, at times any number.
+    pub fn chip(&mut self) -> u8 {
+        if self.once_in(8) {
+            self.byte()
+        } else {
+            1 + self.below(3) as u8
+        }
+    }
+
+    /// Mostly a table near the good ones.
+    pub fn table(&mut self) -> u8 {
+        if self.once_in(12) {
+            self.byte()
+        } else {
+            self.below(5) as u8
+        }
+    }
+
+    pub fn steps(&mut self) -> i16 {
+        let edges = [-32768, -2049, -2048, -1025, -1024, -257, -256, -129, -128, -1, 0, 1, 127];
+        let high = [128, 255, 256, 1023, 1024, 2047, 2048, 32767];
+        match self.below(4) {
+            0 => edges[self.below(edges.len())],
+            1 => high[self.below(high.len())],
+            2 => self.next() as i16,
+            _ => self.below(4096) as i16 - 2048,
+        }
+    }
+
+    /// An image: mostly 256 bytes, of any length at times; power-on bytes, power-on bytes with
+    /// one bit flipped, random bytes, or random bytes with the chip's identity.
+    pub fn image(&mut self, chip: u8) -> Vec<u8> {
+        if self.once_in(10) {
+            let length = self.length();
+            return self.bytes(length);
+        }
+        let kind = self.below(5);
+        let mut image = self.bytes(IMAGE);
+        if kind < 2 {
+            model::reset(chip, &mut image);
+        } else if kind < 4 {
+            self.identify(chip, &mut image);
+        }
+        if kind == 1 || kind == 3 {
+            image[self.below(IMAGE)] ^= 1 << self.below(8);
+        }
+        image
+    }
+
+    /// A random image whose identity is confirmed.
+    pub fn confirmed(&mut self, chip: u8) -> Vec<u8> {
+        let mut image = self.bytes(IMAGE);
+        self.identify(chip, &mut image);
+        image
+    }
+
+    fn identify(&mut self, chip: u8, image: &mut [u8]) {
+        if chip == 1 {
+            image[0xFD] = 0x50;
+            image[0xFE] = 0xC3;
+            image[0xFF] = 0x20 | (self.byte() & 0x0F);
+            image[0x05] &= 0xE0;
+            image[0x08] &= 0xC0;
+        } else {
+            for (address, byte) in [(0x5A, 0x02), (0x5B, 0x04), (0x5D, 0x19), (0x5E, 0x34)] {
+                image[address] = byte;
+            }
+        }
+    }
+
+    fn four_temperatures(&mut self) -> Vec<u8> {
+        loop {
+            let mut four = self.bytes(4);
+            four.sort_unstable();
+            four.dedup();
+            if four.len() == 4 {
+                return four;
+            }
+        }
+    }
+
+    /// A body whose temperatures and speeds are in order.
+    pub fn ordered(&mut self, chip: u8) -> Vec<u8> {
+        let mut body = self.four_temperatures();
+        if chip == 1 {
+            // Turning the top bit makes the order that of signed degrees.
+            let critical = body[3] + self.below(256 - usize::from(body[3])) as u8;
+            body.push(if self.once_in(4) { body[3] } else { critical });
+            body.iter_mut().for_each(|t| *t ^= 0x80);
+            let mut duties = self.bytes(4);
+            duties.sort_unstable();
+            body.extend(duties);
+        } else {
+            body.reverse();
+            let near = self.once_in(3);
+            let (high, low) = (self.byte(), self.byte());
+            let mut counts: Vec<[u8; 2]> = (0..5)
+                .map(|_| if near { [high, low ^ (self.byte() & 3)] } else { [self.byte(), self.byte()] })
+                .collect();
+            counts.sort_unstable();
+            body.extend(counts.concat());
+        }
+        body
+    }
+
+    /// An accepted plan.
+    pub fn good_plan(&mut self) -> Draft {
+        let chip = 1 + self.below(2) as u8;
+        let table = 1 + self.below(if chip == 1 { 3 } else { 2 }) as u8;
+        Draft { chip, table, body: self.ordered(chip) }
+    }
+
+    /// Ordered and unordered plans, of all chips and tables, with short and long bodies.
+    pub fn plan(&mut self) -> Draft {
+        let mut draft = self.good_plan();
+        let length = draft.body.len();
+        match self.below(10) {
+            0 => {
+                draft.chip = self.chip();
+                draft.table = self.table();
+            }
+            1 => {
+                let from = self.below(length - 1);
+                draft.body[from + 1] = draft.body[from];
+            }
+            2 => {
+                let from = self.below(length - 1);
+                draft.body.swap(from, from + 1);
+            }
+            3 => {
+                let at = self.below(length);
+                draft.body[at] = self.byte();
+            }
+            4 => draft.body = self.bytes(length),
+            5 => {
+                let end = self.below(20);
+                draft.body.resize(end, 0xA7);
+            }
+            _ => {}
+        }
+        draft
+    }
+
+    /// The bytes of a record: good with or without a tail, cut short, damaged or random.
+    pub fn record(&mut self) -> Vec<u8> {
+        let draft = if self.once_in(3) { self.plan() } else { self.good_plan() };
+        let mut bytes = draft.record();
+        match self.below(8) {
+            0 => {
+                let end = self.below(bytes.len() + 1);
+                bytes.truncate(end);
+            }
+            1 => {
+                let at = self.below(bytes.len());
+                bytes[at] ^= 1 << self.below(8);
+            }
+            2 => {
+                let at = self.below(4);
+                bytes[at] = self.byte();
+            }
+            3 => {
+                let length = self.length();
+                bytes.resize(length, 0x43);
+            }
+            4 => {
+                let length = self.length();
+                bytes = self.bytes(length);
+            }
+            5 => {
+                let tail = self.length();
+                let tail = self.bytes(tail);
+                bytes.extend(tail);
+            }
+            _ => {}
+        }
+        bytes
+    }
+
+    /// Standard input for the program: good records up to about `length` bytes, at times with
+    /// one damage at any place.
+    pub fn input(&mut self, length: usize) -> Vec<u8> {
+        let mut bytes = Vec::new();
+        loop {
+            let record = self.good_plan().record();
+            if bytes.len() + record.len() > length {
+                break;
+            }
+            bytes.extend(record);
+        }
+        match self.below(6) {
+            0 => bytes.extend(self.record()),
+            1 if !bytes.is_empty() => {
+                let at = self.below(bytes.len());
+                bytes[at] ^= 1 << self.below(8);
+            }
+            2 => bytes.resize(length, 0x43),
+            3 if !bytes.is_empty() => bytes.truncate(self.below(bytes.len())),
+            _ => {}
+        }
+        bytes
+    }
+}

@@ -1,0 +1,90 @@
+//! Part of the model: temperature and voltage readings, and the alarm watch of chip 3.
+
+// ---- Readings: "temperatures 11, and towards bytes then 12."
+
+fn good_width(width: u8) -> bool {
+    matches!(width, 8 | 9 | 11 | 12)
+}
+
+/// "Two bytes, taken as a 16-bit two's complement number and divided by 2 to the power 16
+/// minus w, rounded towards minus infinity."
+pub fn steps_of(width: u8, high: u8, low: u8) -> (u32, i16) {
+    if !good_width(width) {
+        return (11, 0);
+    }
+    let word = i32::from(i16::from_be_bytes([high, low]));
+    let divisor = 1i32 << (16 - u32::from(width));
+    (0, word.div_euclid(divisor) as i16)
+}
+
+/// "The other low bits are ignored on reading and written as zero."
+pub fn bytes_of(width: u8, steps: i16) -> (u32, u8, u8) {
+    if !good_width(width) {
+        return (11, 0, 0);
+    }
+    let half = 1i32 << (u32::from(width) - 1);
+    let steps = i32::from(steps);
+    if steps < -half || steps >= half {
+        return (12, 0, 0);
+    }
+    let word = (steps * (1i32 << (16 - u32::from(width)))) as i16;
+    let [high, low] = word.to_be_bytes();
+    (0, high, low)
+}
+
+/// "An NCT80 voltage word gives its bits 15 to 6 times 2,500 microvolts."
+pub fn microvolts(word: u16) -> u32 {
+    u32::from(word / 64) * 2500
+}
+
+// ---- The alarm watch (chip 3)
+
+const DEFAULT: u8 = 0;
+const ONE_TIME: u8 = 1;
+
+/// "A watch has one of them for good, and two facts, hot and pending, both off at first."
+#[derive(Clone, Copy, PartialEq, Eq, Debug)]
+pub struct Watch {
+    /// 0 default, 1 one-time, 2 comparator (and so for any other number).
+    pub behaviour: u8,
+    pub hot: bool,
+    pub pending: bool,
+}
+
+/// "An alarm sample is a 12-bit step count and may be refused by 12 only." "If the sample is
+/// above the high limit, hot goes on; otherwise, if it is below the hysteresis limit, hot
+/// goes off; otherwise hot stays. Then: in default, pending goes on if hot is on; in
+/// one-time, only if hot went from off to on in this sample; in comparator, never."
+pub fn sample(watch: Watch, steps: i16, high: i8, hysteresis: i8) -> (u32, Watch) {
+    if !(-2048..=2047).contains(&steps) {
+        return (12, watch);
+    }
+    // "Whole degrees, -128 to 127, each compared as 16 times as many steps."
+    let hot = if steps > 16 * i16::from(high) {
+        true
+    } else if steps < 16 * i16::from(hysteresis) {
+        false
+    } else {
+        watch.hot
+    };
+    let goes_on = match watch.behaviour {
+        DEFAULT => hot,
+        ONE_TIME => hot && !watch.hot,
+        _ => false,
+    };
+    let pending = watch.pending || goes_on;
+    (0, Watch { hot, pending, ..watch })
+}
+
+/// "An acknowledge turns pending off and keeps hot."
+pub fn acknowledge(watch: Watch) -> Watch {
+    Watch { pending: false, ..watch }
+}
+
+/// "The output is hot in comparator, pending in the other two."
+pub fn output(watch: Watch) -> bool {
+    match watch.behaviour {
+        DEFAULT | ONE_TIME => watch.pending,
+        _ => watch.hot,
+    }
+}

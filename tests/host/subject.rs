@@ -1,0 +1,57 @@
+//! What is tested: one method per function of the model. A subject answers with the paper's
+//! refusal numbers, 0 for accepted.
+
+use crate::model::{self, Plan, Watch, BODY};
+
+pub trait Subject {
+    fn write(&self, chip: u8, image: &mut [u8], address: u8, byte: u8) -> u32;
+    fn read(&self, chip: u8, image: &[u8], address: u8) -> (u32, u8);
+    fn reset(&self, chip: u8, image: &mut [u8]) -> u32;
+    fn identity(&self, chip: u8, image: &[u8]) -> u32;
+    fn steps_of(&self, width: u8, high: u8, low: u8) -> (u32, i16);
+    fn bytes_of(&self, width: u8, steps: i16) -> (u32, u8, u8);
+    fn microvolts(&self, word: u16) -> u32;
+    /// Refusal, the watch afterwards and its output.
+    fn sample(&self, watch: Watch, steps: i16, high: i8, hysteresis: i8) -> (u32, Watch, bool);
+    /// The watch afterwards and its output.
+    fn acknowledge(&self, watch: Watch) -> (Watch, bool);
+    fn output(&self, watch: Watch) -> bool;
+    /// The body is short or long at times: missing bytes count as zero, further ones are
+    /// ignored. The same holds wherever a plan comes in.
+    fn judge(&self, plan: Plan) -> u32;
+    fn asked_of_plan(&self, plan: Plan, t: u8) -> (u32, u16);
+    fn asked_of_image(&self, chip: u8, table: u8, image: &[u8], t: u8) -> (u32, u16);
+    /// Refusal, chip, table, body, bytes used. Body bytes past the chip's own are zero. "If a
+    /// plan has room for both chips' values, those of the other chip are zero in what is
+    /// read": a subject with such room must stop here if they are not.
+    fn read_record(&self, bytes: &[u8]) -> (u32, u8, u8, [u8; BODY], usize);
+    fn write_record(&self, plan: Plan, out: &mut [u8]) -> (u32, usize);
+    fn script(&self, plan: Plan, out: &mut [u8]) -> (u32, usize);
+    fn play(&self, plan: Plan, image: &mut [u8], count: usize) -> (u32, usize);
+    fn translate(&self, input: &[u8], out: &mut [u8]) -> (u32, usize);
+}
+
+/// The model as it stands: the benchmark's second column.
+pub struct Model;
+
+#[rustfmt::skip]
+impl Subject for Model {
+    fn write(&self, chip: u8, image: &mut [u8], address: u8, byte: u8) -> u32 { model::write(chip, image, address, byte) }
+    fn read(&self, chip: u8, image: &[u8], address: u8) -> (u32, u8) { model::read(chip, image, address) }
+    fn reset(&self, chip: u8, image: &mut [u8]) -> u32 { model::reset(chip, image) }
+    fn identity(&self, chip: u8, image: &[u8]) -> u32 { model::identity(chip, image) }
+    fn steps_of(&self, width: u8, high: u8, low: u8) -> (u32, i16) { model::steps_of(width, high, low) }
+    fn bytes_of(&self, width: u8, steps: i16) -> (u32, u8, u8) { model::bytes_of(width, steps) }
+    fn microvolts(&self, word: u16) -> u32 { model::microvolts(word) }
+    fn sample(&self, watch: Watch, steps: i16, high: i8, hysteresis: i8) -> (u32, Watch, bool) { let (refusal, after) = model::sample(watch, steps, high, hysteresis); (refusal, after, model::output(after)) }
+    fn acknowledge(&self, watch: Watch) -> (Watch, bool) { let after = model::acknowledge(watch); (after, model::output(after)) }
+    fn output(&self, watch: Watch) -> bool { model::output(watch) }
+    fn judge(&self, plan: Plan) -> u32 { model::judge(plan) }
+    fn asked_of_plan(&self, plan: Plan, t: u8) -> (u32, u16) { model::asked_of_plan(plan, t) }
+    fn asked_of_image(&self, chip: u8, table: u8, image: &[u8], t: u8) -> (u32, u16) { model::asked_of_image(chip, table, image, t) }
+    fn read_record(&self, bytes: &[u8]) -> (u32, u8, u8, [u8; BODY], usize) { model::read_record(bytes) }
+    fn write_record(&self, plan: Plan, out: &mut [u8]) -> (u32, usize) { model::write_record(plan, out) }
+    fn script(&self, plan: Plan, out: &mut [u8]) -> (u32, usize) { model::script(plan, out) }
+    fn play(&self, plan: Plan, image: &mut [u8], count: usize) -> (u32, usize) { model::play(plan, image, count) }
+    fn translate(&self, input: &[u8], out: &mut [u8]) -> (u32, usize) { model::translate(input, out) }
+}
