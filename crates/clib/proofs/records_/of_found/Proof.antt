@@ -5,7 +5,6 @@ use Rattle.clib.specs.Packed.{packed, packsFound}
 use Rattle.records.specs.Records.{tellsUsed}
 use Rattle.records.specs.declared.Used.{Used}
 use native.Mathlib.Omega.{arith}
-use Prim.Native.Nat.{ℕ}
 use mathlib.Core.Path.{sym, ap, _∙_}
 use borrow.Author.Needs.{needs}
 use Rattle.clib.proofs.records_.of_found.Statement.{statement}
