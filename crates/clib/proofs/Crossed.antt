@@ -1,6 +1,6 @@
 -- What the library answers of the plan that crossed is what the call promises, and it has room above the refusal number.
 -- Assumes nothing.
-use Prim.Native.Nat.{ℕ, _<_, _^_, _≤_, min}
+use Prim.Native.Nat.{ℕ, _<_, _^_, min}
 use native.Mathlib.Nat.{min-le-right}
 use native.Mathlib.Omega.{arith}
 use mathlib.Core.Path.{_≡_, ap, subst, _∙_}

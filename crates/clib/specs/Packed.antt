@@ -17,7 +17,6 @@ use Rattle.readings.specs.Promises.{stepsChecks, bytesChecks}
 use Rattle.watch.specs.declared.Watch.{Watch}
 use Rattle.watch.specs.Alarm.{sample, after, acknowledged}
 use Rattle.watch.specs.Promises.{sampleChecks}
-use Rattle.plans.specs.declared.Plan.{Plan}
 use Rattle.plans.specs.Plans.{planned, held, asks}
 use Rattle.records.specs.Records.{chipIn, tableIn, recordLength, recordChecks, encoded, writeChecks, roomChecks}
 use Rattle.scripts.specs.Scripts.{scriptOf, scriptFor, scriptChecks, playChecks, flat, played}

@@ -1,12 +1,12 @@
--- `records_::yk_read_record` meets its contract: the chip and the table of the plan that is read are those of the header.
+-- `plan_records::yk_read_record` meets its contract: the chip and the table of the plan that is read are those of the header.
 -- Assumes nothing.
 use Rattle.records.specs.Records.{recordChecks}
 use Rattle.clib.proofs.Found.{used-within, found-packed}
 use Rattle.clib.proofs.Within.{told-within}
 use mathlib.Core.Path.{_∙_}
 use borrow.Author.Needs.{needs}
-use Rattle.clib.proofs.records_.yk_read_record.Statement.{statement}
-use Rattle.clib.proofs.records_.yk_read_record.Tie as tie
+use Rattle.clib.proofs.plan_records.yk_read_record.Statement.{statement}
+use Rattle.clib.proofs.plan_records.yk_read_record.Tie as tie
 
 read-requires : tie.Need-read-requires
 read-requires c κs = search needs

@@ -1,9 +1,9 @@
--- `records_::yk_write_record` meets its contract: it packs what the library answers of the plan that crossed.
+-- `plan_records::yk_write_record` meets its contract: it packs what the library answers of the plan that crossed.
 -- Assumes nothing.
 use Rattle.clib.proofs.Crossed.{record-room, record-written}
 use borrow.Author.Needs.{needs}
-use Rattle.clib.proofs.records_.yk_write_record.Statement.{statement}
-use Rattle.clib.proofs.records_.yk_write_record.Tie as tie
+use Rattle.clib.proofs.plan_records.yk_write_record.Statement.{statement}
+use Rattle.clib.proofs.plan_records.yk_write_record.Tie as tie
 
 plan-from-requires : tie.Need-plan-from-requires
 plan-from-requires c κs = search needs

@@ -1,9 +1,9 @@
--- `scripts_::yk_play` meets its contract: it packs what the library answers of the plan that crossed.
+-- `plan_scripts::yk_play` meets its contract: it packs what the library answers of the plan that crossed.
 -- Assumes nothing.
 use Rattle.clib.proofs.Crossed.{play-room, play-made}
 use borrow.Author.Needs.{needs}
-use Rattle.clib.proofs.scripts_.yk_play.Statement.{statement}
-use Rattle.clib.proofs.scripts_.yk_play.Tie as tie
+use Rattle.clib.proofs.plan_scripts.yk_play.Statement.{statement}
+use Rattle.clib.proofs.plan_scripts.yk_play.Tie as tie
 
 plan-from-requires : tie.Need-plan-from-requires
 plan-from-requires c κs = search needs

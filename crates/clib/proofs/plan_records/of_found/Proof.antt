@@ -1,15 +1,14 @@
--- `records_::of_found` meets its contract: each arm packs what its case tells.
+-- `plan_records::of_found` meets its contract: each arm packs what its case tells.
 -- Assumes nothing.
 use Rattle.clib.proofs.Found.{found-refused}
 use Rattle.clib.specs.Packed.{packed, packsFound}
 use Rattle.records.specs.Records.{tellsUsed}
 use Rattle.records.specs.declared.Used.{Used}
 use native.Mathlib.Omega.{arith}
-use Prim.Native.Nat.{ℕ}
 use mathlib.Core.Path.{sym, ap, _∙_}
 use borrow.Author.Needs.{needs}
-use Rattle.clib.proofs.records_.of_found.Statement.{statement}
-use Rattle.clib.proofs.records_.of_found.Tie as tie
+use Rattle.clib.proofs.plan_records.of_found.Statement.{statement}
+use Rattle.clib.proofs.plan_records.of_found.Tie as tie
 
 enum-known-answer : tie.Need-enum-known-answer
 enum-known-answer c = search needs
