@@ -1,8 +1,6 @@
 -- `lines::write` meets its contract: the six bytes of the line are its digits, a space and the newline.
 -- Assumes nothing.
-use mathlib.Core.List.{List, [], _∷_}
-use mathlib.Core.Path.{_≡_}
-use Prim.Native.Nat.{ℕ}
+use mathlib.Core.List.{[], _∷_}
 use Rattle.translation.proofs.Adding.{adds-as}
 use borrow.Author.Needs.{needs}
 use Rattle.translation.proofs.lines.write.Statement.{statement}
