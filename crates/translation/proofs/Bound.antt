@@ -3,7 +3,7 @@
 -- Assumes nothing.
 use Prim.Native.Nat.{ℕ, zero, suc, _+_, _*_, _≤_, _<_}
 use native.Mathlib.Omega.{arith}
-use mathlib.Core.Path.{_≡_, refl, sym, ap, _∙_}
+use mathlib.Core.Path.{_≡_, refl}
 use mathlib.Core.Bool.{Bool, true, false, So, cond, _&&_, and-eq-true-iff}
 use mathlib.Core.List.{List, [], _∷_, _++_}
 use borrow.Author.Tests.{ltb-true, ltb-false, eqb-true}
@@ -13,8 +13,7 @@ use Rattle.refusal.specs.Checks.{Check, first}
 use Rattle.plans.specs.declared.Plan.{Plan}
 use Rattle.records.specs.Records.{planIn, recordChecks}
 use Rattle.scripts.specs.Scripts.{scriptFor}
-use Rattle.translation.specs.Words.{decimal}
-use Rattle.translation.specs.Text.{field, headerLine, writeLines, refusalIn, usedIn, planText, refusedLine, endLine, tooLong, textFrom, textOf}
+use Rattle.translation.specs.Text.{headerLine, writeLines, refusalIn, usedIn, planText, refusedLine, endLine, tooLong, textFrom, textOf}
 use Rattle.translation.proofs.Decimals.{one-digit, two-digits, three-digits}
 use Rattle.translation.proofs.WriteLines.{lines-length}
 use Rattle.translation.proofs.Accepted.{Accepted, accepted}

@@ -7,10 +7,10 @@ use mathlib.Core.Bool.{cond}
 use mathlib.Core.List.{List, [], _∷_, _++_}
 use borrow.Author.Tests.{le-ltb}
 use lib.Dec.{eqb, ltb}
-use lib.ListN.{length, take, drop, length-append}
+use lib.ListN.{length, drop, length-append}
 use lib.Seq.{take-all}
 use Rattle.refusal.specs.declared.Refusal.{Refusal}
-use Rattle.refusal.specs.Checks.{first, told}
+use Rattle.refusal.specs.Checks.{first}
 use Rattle.refusal.proofs.Numbers.{not-accepted}
 use Rattle.refusal.proofs.Passed.{first-passed, told-passed}
 use Rattle.plans.specs.declared.Plan.{Plan}

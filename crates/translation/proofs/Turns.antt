@@ -2,7 +2,7 @@
 -- Assumes nothing.
 use Prim.Native.Nat.{ℕ, zero, suc, _+_, _≤_, _<_}
 use native.Mathlib.Omega.{arith}
-use mathlib.Core.Path.{_≡_, refl, sym, ap, _∙_}
+use mathlib.Core.Path.{_≡_, refl, sym, ap}
 use mathlib.Core.Bool.{Bool, true, false, cond}
 use mathlib.Core.List.{List, [], _∷_, _++_}
 use borrow.Author.Tests.{eqb-true, eq-eqb, ne-eqb}
@@ -10,7 +10,7 @@ use lib.Dec.{eqb}
 use lib.ListN.{length, drop, length-drop}
 use Rattle.records.specs.Records.{planIn}
 use Rattle.translation.specs.Text.{refusalIn, usedIn, planText, refusedLine, endLine, textFrom}
-use Rattle.translation.proofs.Accepted.{Accepted, accepted}
+use Rattle.translation.proofs.Accepted.{accepted}
 
 -- an accepted record leaves fewer bytes
 shorter : (bytes : List ℕ) → refusalIn bytes ≡ 0 → length (drop (usedIn bytes) bytes) < length bytes

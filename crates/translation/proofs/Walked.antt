@@ -10,14 +10,12 @@ use lib.ListN.{length, take, drop, length-append, length-drop}
 use lib.Seq.{drop-drop}
 use Rattle.refusal.specs.declared.Refusal.{Refusal}
 use Rattle.refusal.specs.Refusals.{numberOf}
-use Rattle.refusal.specs.Checks.{first}
 use Rattle.refusal.proofs.Numbers.{numberOf-positive}
 use Rattle.plans.specs.declared.Plan.{Plan}
 use Rattle.plans.proofs.Registers.{to-the-end}
 use Rattle.records.specs.declared.Found.{Found}
-use Rattle.records.specs.declared.Used.{Used}
 use Rattle.records.specs.declared.Used.the-variants as used
-use Rattle.records.specs.Records.{recordChecks, planIn, noPlan, tellsUsed, Reads}
+use Rattle.records.specs.Records.{planIn, noPlan, tellsUsed, Reads}
 use Rattle.translation.specs.Text.{refusalIn, usedIn, planText, refusedLine, endLine}
 use Rattle.translation.specs.Parts.{Within, Adds, Accepts}
 use Rattle.translation.proofs.Adding.{adds-none, adds-then, adds-as}

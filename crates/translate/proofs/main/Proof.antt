@@ -5,7 +5,6 @@ use Rattle.translate.specs.declared.Input.{Input}
 use lib.Seq.{length-take-le}
 use lib.ListN.{length}
 use mathlib.Core.Path.{sym, subst}
-use Prim.Native.Nat.{_≤_}
 use borrow.Author.Needs.{needs}
 use Rattle.translate.proofs.main.Statement.{statement}
 use Rattle.translate.proofs.main.Tie as tie

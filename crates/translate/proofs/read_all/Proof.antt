@@ -3,7 +3,6 @@
 use lib.ListN.{length}
 use mathlib.Core.Path.{_≡_}
 use Prim.Native.Nat.{_-_, _≤_}
-use native.Mathlib.Omega.{arith}
 use borrow.Author.Needs.{needs}
 use Rattle.translate.proofs.read_all.Statement.{statement}
 use Rattle.translate.proofs.read_all.Tie as tie

@@ -20,27 +20,42 @@ enum-told : tie.Need-enum-told
 enum-told c = search needs
 
 returns : tie.Need-returns
-returns c = absurd (never-refused (c .before .before .before .before .before .before .pre .0) refl (c .before .before .before .script .ensures) _ (c .enum-told .given .1))
+returns c =
+    let at-script = c .before .before .before in
+    let at-start = at-script .before .before .before in
+    absurd (never-refused (at-start .pre .0) refl (at-script .script .ensures) _ (c .enum-told .given .1))
 
 header-requires : tie.Need-header-requires
-header-requires c κs = header-within (c .before .before .before .before .before .before .before .before .pre .0) refl (c .before .before .before .before .before .script .ensures) _ (c .before .before .writes .given .1) _ _ (c .before .before .before .before .before .before .before .before .pre .1)
+header-requires c κs =
+    let at-writes = c .before .before in
+    let at-script = at-writes .before .before .before in
+    let at-start = at-script .before .before .before in
+    header-within (at-start .pre .0) refl (at-script .script .ensures) _ (at-writes .writes .given .1) _ _ (at-start .pre .1)
 
 slice-aggregate-writes : tie.Need-slice-aggregate-writes
 slice-aggregate-writes c = search needs
 
 writes-requires : tie.Need-writes-requires
-writes-requires c κs = let start = c .before .before .before .before .before .before .before .before .before .before .before .before .before in
-    let script = c .before .before .before .before .before .before .before .before .before .before .script in
-    let told = c .before .before .before .before .before .before .before .writes .given .1 in (
-      omega (arith, count (start .pre .0) refl (script .ensures) _ told, start .pre .0 .writes, script .kept .1 .0),
-      writes-within (start .pre .0) refl (script .ensures) _ told _ _ (start .pre .1) (c .before .before .before .before .header .ensures .next),
+writes-requires c κs =
+    let at-header = c .before .before .before .before in
+    let at-writes = at-header .before .before .before in
+    let at-script = at-writes .before .before .before in
+    let at-start = at-script .before .before .before in (
+      omega (arith, count (at-start .pre .0) refl (at-script .script .ensures) _ (at-writes .writes .given .1), at-start .pre .0 .writes, at-script .script .kept .1 .0),
+      writes-within (at-start .pre .0) refl (at-script .script .ensures) _ (at-writes .writes .given .1) _ _ (at-start .pre .1) (at-header .header .ensures .next),
     )
 
 same-length : tie.Need-same-length
 same-length c = search needs
 
 returns-2 : tie.Need-returns-2
-returns-2 c = plan-added (c .before .before .before .before .before .before .before .before .before .before .before .before .before .before .before .before .pre .0) refl (c .before .before .before .before .before .before .before .before .before .before .before .before .before .script .ensures) _ (c .before .before .before .before .before .before .before .before .before .before .writes .given .1) _ (c .before .before .before .before .before .before .before .header .ensures) (c .before .before .writes2 .ensures)
+returns-2 c =
+    let at-writes2 = c .before .before in
+    let at-header = at-writes2 .before .before .before .before .before in
+    let at-writes = at-header .before .before .before in
+    let at-script = at-writes .before .before .before in
+    let at-start = at-script .before .before .before in
+    plan-added (at-start .pre .0) refl (at-script .script .ensures) _ (at-writes .writes .given .1) _ (at-header .header .ensures) (at-writes2 .writes2 .ensures)
 
 pub plan-lines-spec : {M : Type 1} → statement M
 plan-lines-spec =

@@ -35,49 +35,116 @@ enum-known-answer : tie.Need-enum-known-answer Inv-loop μ-loop
 enum-known-answer c = search needs
 
 add-refused : tie.Need-add-refused Inv-loop μ-loop
-add-refused c = omega (arith, c .before .before .before .before .before .before .before .before .loop .inv .few, c .before .before .before .before .before .before .before .before .loop .inv .within, c .before .before .before .before .before .before .before .before .before .before .before .pre)
+add-refused c =
+    let at-loop = c .before .before .before .before .before .before .before .before in
+    let at-start = at-loop .before .before .before in
+    omega (arith, at-loop .loop .inv .few, at-loop .loop .inv .within, at-start .pre)
 
 number-requires : tie.Need-number-requires Inv-loop μ-loop
 number-requires c κs = search needs
 
 refused-requires : tie.Need-refused-requires Inv-loop μ-loop
-refused-requires c κs = refused-within (c .before .before .before .before .before .before .before .before .before .before .before .before .pre) (c .before .before .before .before .before .before .before .before .before .loop .inv) (c .before .before .before .before .before .before .before .before .loop-test .taken) (c .before .before .before .before .before .before .read .ensures) _ (c .before .before .before .answer .given .1) (c .number .ensures .answer)
+refused-requires c κs =
+    let at-number = c in
+    let at-answer = at-number .before .before .before in
+    let at-read = at-answer .before .before .before in
+    let at-loop-test = at-read .before .before in
+    let at-loop = at-loop-test .before in
+    let at-start = at-loop .before .before .before in
+    refused-within (at-start .pre) (at-loop .loop .inv) (at-loop-test .loop-test .taken) (at-read .read .ensures) _ (at-answer .answer .given .1) (at-number .number .ensures .answer)
 
 same-length : tie.Need-same-length Inv-loop μ-loop
-same-length c = adds-length (c .before .before .refused .ensures) ∙ adds-length (c .before .before .before .before .before .before .before .before .before .before .before .before .loop .inv .adds)
+same-length c =
+    let at-refused = c .before .before in
+    let at-loop = at-refused .before .before .before .before .before .before .before .before .before .before in
+    adds-length (at-refused .refused .ensures) ∙ adds-length (at-loop .loop .inv .adds)
 
 returns : tie.Need-returns Inv-loop μ-loop
-returns c = refused-added (c .before .before .before .before .before .before .before .before .before .before .before .before .before .before .before .pre) (c .before .before .before .before .before .before .before .before .before .before .before .before .loop .inv) (c .before .before .before .before .before .before .before .before .before .before .before .loop-test .taken) (c .before .before .before .before .before .before .before .before .before .read .ensures) _ (c .before .before .before .before .before .before .answer .given .1) (c .before .before .before .number .ensures .answer) (c .before .before .refused .ensures)
+returns c =
+    let at-refused = c .before .before in
+    let at-number = at-refused .before in
+    let at-answer = at-number .before .before .before in
+    let at-read = at-answer .before .before .before in
+    let at-loop-test = at-read .before .before in
+    let at-loop = at-loop-test .before in
+    let at-start = at-loop .before .before .before in
+    refused-added (at-start .pre) (at-loop .loop .inv) (at-loop-test .loop-test .taken) (at-read .read .ensures) _ (at-answer .answer .given .1) (at-number .number .ensures .answer) (at-refused .refused .ensures)
 
 enum-known-answer-2 : tie.Need-enum-known-answer-2 Inv-loop μ-loop
 enum-known-answer-2 c = search needs
 
 add-plan-lines : tie.Need-add-plan-lines Inv-loop μ-loop
-add-plan-lines c = omega (arith, c .before .before .before .before .before .before .before .before .loop .inv .few, c .before .before .before .before .before .before .before .before .loop .inv .within, c .before .before .before .before .before .before .before .before .before .before .before .pre)
+add-plan-lines c =
+    let at-loop = c .before .before .before .before .before .before .before .before in
+    let at-start = at-loop .before .before .before in
+    omega (arith, at-loop .loop .inv .few, at-loop .loop .inv .within, at-start .pre)
 
 plan-lines-requires : tie.Need-plan-lines-requires Inv-loop μ-loop
-plan-lines-requires c κs = (plan-accepts (c .before .before .before .before .before .before .before .before .before .before .before .pre) (c .before .before .before .before .before .before .before .before .loop .inv) (c .before .before .before .before .before .before .before .loop-test .taken) (c .before .before .before .before .before .read .ensures) _ (c .before .before .answer2 .given .1), plan-within (c .before .before .before .before .before .before .before .before .before .before .before .pre) (c .before .before .before .before .before .before .before .before .loop .inv) (c .before .before .before .before .before .before .before .loop-test .taken) (c .before .before .before .before .before .read .ensures) _ (c .before .before .answer2 .given .1))
+plan-lines-requires c κs =
+    let at-answer2 = c .before .before in
+    let at-read = at-answer2 .before .before .before in
+    let at-loop-test = at-read .before .before in
+    let at-loop = at-loop-test .before in
+    let at-start = at-loop .before .before .before in (
+      plan-accepts (at-start .pre) (at-loop .loop .inv) (at-loop-test .loop-test .taken) (at-read .read .ensures) _ (at-answer2 .answer2 .given .1),
+      plan-within (at-start .pre) (at-loop .loop .inv) (at-loop-test .loop-test .taken) (at-read .read .ensures) _ (at-answer2 .answer2 .given .1),
+    )
 
 add-from : tie.Need-add-from Inv-loop μ-loop
-add-from c = omega (arith, next-within (c .before .before .before .before .before .before .before .before .before .before .before .before .before .before .pre) (c .before .before .before .before .before .before .before .before .before .before .before .loop .inv) (c .before .before .before .before .before .before .before .before .before .before .loop-test .taken) (c .before .before .before .before .before .before .before .before .read .ensures) _ (c .before .before .before .before .before .answer2 .given .1) .0, c .before .before .before .before .before .before .before .before .before .before .before .before .before .before .pre)
+add-from c =
+    let at-answer2 = c .before .before .before .before .before in
+    let at-read = at-answer2 .before .before .before in
+    let at-loop-test = at-read .before .before in
+    let at-loop = at-loop-test .before in
+    let at-start = at-loop .before .before .before in
+    omega (arith, next-within (at-start .pre) (at-loop .loop .inv) (at-loop-test .loop-test .taken) (at-read .read .ensures) _ (at-answer2 .answer2 .given .1) .0, at-start .pre)
 
 add-plans : tie.Need-add-plans Inv-loop μ-loop
-add-plans c = omega (arith, c .before .before .before .before .before .before .before .before .before .before .before .loop .inv .few, c .before .before .before .before .before .before .before .before .before .before .before .loop .inv .within, c .before .before .before .before .before .before .before .before .before .before .before .before .before .before .pre)
+add-plans c =
+    let at-loop = c .before .before .before .before .before .before .before .before .before .before .before in
+    let at-start = at-loop .before .before .before in
+    omega (arith, at-loop .loop .inv .few, at-loop .loop .inv .within, at-start .pre)
 
 loop-less : tie.Need-loop-less Inv-loop μ-loop
-loop-less c = let next = next-within (c .before .before .before .before .before .before .before .before .before .before .before .before .before .before .pre) (c .before .before .before .before .before .before .before .before .before .before .before .loop .inv) (c .before .before .before .before .before .before .before .before .before .before .loop-test .taken) (c .before .before .before .before .before .before .before .before .read .ensures) _ (c .before .before .before .before .before .answer2 .given .1) in omega (arith, next .0, next .1)
+loop-less c =
+    let at-answer2 = c .before .before .before .before .before in
+    let at-read = at-answer2 .before .before .before in
+    let at-loop-test = at-read .before .before in
+    let at-loop = at-loop-test .before in
+    let at-start = at-loop .before .before .before in
+    let next = next-within (at-start .pre) (at-loop .loop .inv) (at-loop-test .loop-test .taken) (at-read .read .ensures) _ (at-answer2 .answer2 .given .1) in
+    omega (arith, next .0, next .1)
 
 loop-again : tie.Need-loop-again Inv-loop μ-loop
-loop-again c = walked-more (c .before .before .before .before .before .before .before .before .before .before .before .before .before .before .pre) (c .before .before .before .before .before .before .before .before .before .before .before .loop .inv) (c .before .before .before .before .before .before .before .before .before .before .loop-test .taken) (c .before .before .before .before .before .before .before .before .read .ensures) _ (c .before .before .before .before .before .answer2 .given .1) (c .before .before .plan-lines .ensures)
+loop-again c =
+    let at-plan-lines = c .before .before in
+    let at-answer2 = at-plan-lines .before .before .before in
+    let at-read = at-answer2 .before .before .before in
+    let at-loop-test = at-read .before .before in
+    let at-loop = at-loop-test .before in
+    let at-start = at-loop .before .before .before in
+    walked-more (at-start .pre) (at-loop .loop .inv) (at-loop-test .loop-test .taken) (at-read .read .ensures) _ (at-answer2 .answer2 .given .1) (at-plan-lines .plan-lines .ensures)
 
 end-requires : tie.Need-end-requires Inv-loop μ-loop
-end-requires c κs = end-within (c .before .before .before .before .before .pre) (c .before .before .loop .inv) (c .before .loop-test .left)
+end-requires c κs =
+    let at-loop-test = c .before in
+    let at-loop = at-loop-test .before in
+    let at-start = at-loop .before .before .before in
+    end-within (at-start .pre) (at-loop .loop .inv) (at-loop-test .loop-test .left)
 
 same-length-2 : tie.Need-same-length-2 Inv-loop μ-loop
-same-length-2 c = adds-length (c .before .before .end .ensures) ∙ adds-length (c .before .before .before .before .before .loop .inv .adds)
+same-length-2 c =
+    let at-end = c .before .before in
+    let at-loop = at-end .before .before .before in
+    adds-length (at-end .end .ensures) ∙ adds-length (at-loop .loop .inv .adds)
 
 returns-2 : tie.Need-returns-2 Inv-loop μ-loop
-returns-2 c = end-added (c .before .before .before .before .before .before .before .before .pre) (c .before .before .before .before .before .loop .inv) (c .before .before .before .before .loop-test .left) (c .before .before .end .ensures)
+returns-2 c =
+    let at-end = c .before .before in
+    let at-loop-test = at-end .before .before in
+    let at-loop = at-loop-test .before in
+    let at-start = at-loop .before .before .before in
+    end-added (at-start .pre) (at-loop .loop .inv) (at-loop-test .loop-test .left) (at-end .end .ensures)
 
 pub record-lines-spec : {M : Type 1} → statement M
 record-lines-spec =

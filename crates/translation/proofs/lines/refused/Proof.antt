@@ -20,18 +20,29 @@ slice-aggregate-field-2 c = search needs
 
 field-requires-2 : tie.Need-field-requires-2
 unfolding refusedLine
-field-requires-2 c κs = omega (arith, c .before .before .before .before .field .ensures .next, simp length-append at (c .before .before .before .before .before .before .before .before .pre))
+field-requires-2 c κs =
+    let at-field = c .before .before .before .before in
+    let at-start = at-field .before .before .before .before in
+    omega (arith, at-field .field .ensures .next, simp length-append at (at-start .pre))
 
 put-requires : tie.Need-put-requires
 unfolding refusedLine
-put-requires c κs = omega (arith, c .before .before .before .before .before .before .before .before .field .ensures .next, c .before .before .before .field2 .ensures .next, simp length-append at (c .before .before .before .before .before .before .before .before .before .before .before .before .pre))
+put-requires c κs =
+    let at-field2 = c .before .before .before in
+    let at-field = at-field2 .before .before .before .before .before in
+    let at-start = at-field .before .before .before .before in
+    omega (arith, at-field .field .ensures .next, at-field2 .field2 .ensures .next, simp length-append at (at-start .pre))
 
 same-length : tie.Need-same-length
 same-length c = search needs
 
 returns : tie.Need-returns
 unfolding refusedLine
-returns c = adds-then (adds-then (c .before .before .before .before .before .before .before .before .before .before .before .field .ensures) (c .before .before .before .before .before .before .field2 .ensures)) (c .before .before .put .ensures)
+returns c =
+    let at-put = c .before .before in
+    let at-field2 = at-put .before .before .before .before in
+    let at-field = at-field2 .before .before .before .before .before in
+    adds-then (adds-then (at-field .field .ensures) (at-field2 .field2 .ensures)) (at-put .put .ensures)
 
 pub refused-spec : {M : Type 1} → statement M
 refused-spec =

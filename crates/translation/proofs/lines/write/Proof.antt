@@ -1,8 +1,6 @@
 -- `lines::write` meets its contract: the six bytes of the line are its digits, a space and the newline.
 -- Assumes nothing.
-use mathlib.Core.List.{List, [], _∷_}
-use mathlib.Core.Path.{_≡_}
-use Prim.Native.Nat.{ℕ}
+use mathlib.Core.List.{[], _∷_}
 use Rattle.translation.proofs.Adding.{adds-as}
 use borrow.Author.Needs.{needs}
 use Rattle.translation.proofs.lines.write.Statement.{statement}
@@ -30,9 +28,15 @@ same-length : tie.Need-same-length
 same-length c = search needs
 
 returns : tie.Need-returns
-returns c = adds-as
-    (λ i. (c .before .before .before .before .before .before .before .before .high .ensures i) ∷ (c .before .before .before .before .before .before .before .low .ensures i) ∷ 0x20 ∷ (c .before .before .before .before .before .before .high2 .ensures i) ∷ (c .before .before .before .before .before .low2 .ensures i) ∷ 0x0A ∷ [])
-    (c .before .before .append .ensures)
+returns c =
+    let at-append = c .before .before in
+    let at-low2 = at-append .before .before .before in
+    let at-high2 = at-low2 .before in
+    let at-low = at-high2 .before in
+    let at-high = at-low .before in
+    adds-as
+    (λ i. at-high .high .ensures i ∷ (at-low .low .ensures i ∷ (0x20 ∷ (at-high2 .high2 .ensures i ∷ (at-low2 .low2 .ensures i ∷ (0x0A ∷ []))))))
+    (at-append .append .ensures)
 
 pub write-spec : {M : Type 1} → statement M
 write-spec =

@@ -2,11 +2,11 @@
 -- Assumes nothing.
 use borrow.Author.Needs.{needs}
 use native.Mathlib.Omega.{arith}
-use mathlib.Core.Path.{sym, ap, ap₂, _∙_}
-use mathlib.Core.List.{List, [], _∷_, _++_}
+use mathlib.Core.Path.{sym, ap, _∙_}
+use mathlib.Core.List.{[], _∷_, _++_}
 use lib.ListN.{length, length-append}
 use Rattle.translation.specs.Words.{digit as Words·digit, decimal as Words·decimal}
-use Rattle.translation.proofs.Adding.{adds-then, adds-as, adds-length}
+use Rattle.translation.proofs.Adding.{adds-then, adds-as}
 use Rattle.translation.proofs.Decimals.{decimal-small, decimal-large}
 use Prim.Native.Nat.{ℕ, _<_, _/_, _%_}
 use borrow.Fn.Kinds.{In}

@@ -3,7 +3,6 @@
 use Rattle.translation.proofs.Adding.{Added, added-none, added-more, added-all, added-length}
 use mathlib.Core.Path.{refl}
 use Prim.Native.Nat.{_-_}
-use native.Mathlib.Omega.{arith}
 use borrow.Author.Needs.{needs}
 use Rattle.translation.proofs.output.append.Statement.{statement}
 use Rattle.translation.proofs.output.append.Tie as tie
