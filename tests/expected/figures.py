@@ -3,8 +3,8 @@
 
     python3 tests/expected/figures.py > crates/figures/stdout
 
-Nothing here or in the modules beside it is taken from the Rattle code or from a run of it: the second reading was made from the sheets
-by a reader who had not seen the first, and the rest follows the sentences of the rules paper.
+Nothing here or in the modules beside it is taken from a run of the program: the second reading was made from the sheets by a reader who
+had not seen the first, and the rest follows the sentences of the rules paper.
 """
 import sys
 

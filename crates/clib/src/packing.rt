@@ -17,7 +17,7 @@ ghost use Rattle.translation.specs.Text as translation;
 ghost use Rattle.clib.specs.Packed.{packed, packs, packsPair};
 
 // A value of at most 56 bits has room above the refusal number.
-pub fn packed(refusal: u8, value: u64) -> u64
+pub(crate) fn packed(refusal: u8, value: u64) -> u64
     requires { ⌜ value < 2 ^ 56 ⌝ }
     ensures { λ r. ⌜ r ≡ packed refusal value ⌝ }
 {
@@ -61,7 +61,7 @@ pub fn of_asked(asked: Asked) -> u64
     }
 }
 
-pub fn of_used(used: Used) -> u64
+pub(crate) fn of_used(used: Used) -> u64
     requires { ⌜ tellsUsed used .1 < 2 ^ 56 ⌝ }
     ensures { λ r. ⌜ r ≡ packs (tellsUsed used) ⌝ }
 {
@@ -71,7 +71,7 @@ pub fn of_used(used: Used) -> u64
     }
 }
 
-pub fn of_made(made: Made) -> u64
+pub(crate) fn of_made(made: Made) -> u64
     requires { ⌜ scripts.tells made .1 < 2 ^ 56 ⌝ }
     ensures { λ r. ⌜ r ≡ packs (scripts.tells made) ⌝ }
 {
@@ -81,7 +81,7 @@ pub fn of_made(made: Made) -> u64
     }
 }
 
-pub fn of_text(text: Text) -> u64
+pub(crate) fn of_text(text: Text) -> u64
     requires { ⌜ translation.tells text .1 < 2 ^ 56 ⌝ }
     ensures { λ r. ⌜ r ≡ packs (translation.tells text) ⌝ }
 {

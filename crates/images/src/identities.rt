@@ -42,7 +42,7 @@ fn is_f75373s(image: &[u8]) -> bool
 }
 
 // No identity is known of the NCT80, so none is confirmed.
-pub fn confirmed(chip: Chip, image: &[u8]) -> bool
+pub(crate) fn confirmed(chip: Chip, image: &[u8]) -> bool
     requires { ⌜ length (now image) ≡ 256 ⌝ }
     ensures { λ r. ⌜ r ≡ confirmed chip (now (image .entry)) ⌝ }
 {

@@ -16,7 +16,7 @@ pub fn byte_at(body: &[u8], at: usize) -> u8
     if at < body.len() { body[at] } else { 0 }
 }
 
-pub fn four_at(body: &[u8], at: usize) -> [u8; 4]
+pub(crate) fn four_at(body: &[u8], at: usize) -> [u8; 4]
     requires { ⌜ at ≤ 5 ⌝ }
     ensures { λ r. ⌜ r ≡ bytesAt (now (body .entry)) (from at 4) ⌝ }
 {

@@ -34,7 +34,7 @@ pub struct Prepared {
 }
 
 impl Script {
-    pub fn writes(self) -> usize
+    pub(crate) fn writes(self) -> usize
         requires { ⌜ Sized self ⌝ }
         ensures { λ r. ⌜ r ≡ writesOf self ⌝ }
     {
@@ -42,7 +42,7 @@ impl Script {
     }
 
     // The pair of a place.
-    pub fn pair(self, k: usize) -> Pair
+    pub(crate) fn pair(self, k: usize) -> Pair
         requires { ⌜ Sized self ⌝ }
         requires { ⌜ k < writesOf self ⌝ }
         ensures { λ r. ⌜ r ≡ pairAt self k ⌝ }

@@ -7,7 +7,7 @@ ghost use lib.ListN.{length, drop};
 ghost use Rattle.scripts.specs.Scripts.{flat};
 ghost use Rattle.scripts.specs.Making.{pairsOf, writesOf, Sized};
 
-pub fn put_all(script: Script, writes: usize, out: &mut [u8])
+pub(crate) fn put_all(script: Script, writes: usize, out: &mut [u8])
     requires { ⌜ Sized script ⌝ }
     requires { ⌜ writes ≡ writesOf script ⌝ }
     requires { ⌜ 2 * writes ≤ length (now out) ⌝ }

@@ -14,7 +14,7 @@ pub fn least(a: usize, b: usize) -> usize
 }
 
 // The first writes of a script. The chip is known and the image is one, so no write is refused.
-pub fn make(chip: u8, script: Script, writes: usize, image: &mut [u8])
+pub(crate) fn make(chip: u8, script: Script, writes: usize, image: &mut [u8])
     requires { ⌜ Sized script ⌝ }
     requires { ⌜ writes ≤ writesOf script ⌝ }
     requires { ⌜ length (now image) ≡ 256 ⌝ }

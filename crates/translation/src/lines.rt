@@ -8,7 +8,14 @@ ghost use Rattle.translation.specs.Words.{digit};
 ghost use Rattle.translation.specs.Text.{headerLine, writeLine, writeLines, refusedLine, endLine};
 ghost use Rattle.translation.specs.Parts.{Within, Adds, pairsIn};
 
-pub fn header(out: &mut [u8], at: usize, number: usize, chip: u8, table: u8, writes: usize) -> usize
+pub(crate) fn header(
+    out: &mut [u8],
+    at: usize,
+    number: usize,
+    chip: u8,
+    table: u8,
+    writes: usize,
+) -> usize
     requires { ⌜ Within at (headerLine number chip table writes) ⌝ }
     ensures { λ r. ⌜ Adds (headerLine number chip table writes) (now (out .entry)) at r (now (out .exit)) ⌝ }
 {
@@ -47,7 +54,7 @@ fn write(out: &mut [u8], at: usize, address: u8, byte: u8) -> usize
 }
 
 // The first writes of a script, whose bytes stand address first.
-pub fn writes(out: &mut [u8], at: usize, pairs: &[u8], count: usize) -> usize
+pub(crate) fn writes(out: &mut [u8], at: usize, pairs: &[u8], count: usize) -> usize
     requires { ⌜ 2 * count ≤ length (now pairs) ⌝ }
     requires { ⌜ Within at (writeLines (pairsIn count (now pairs))) ⌝ }
     ensures { λ r. ⌜ Adds (writeLines (pairsIn count (now (pairs .entry)))) (now (out .entry)) at r (now (out .exit)) ⌝ }
@@ -59,7 +66,7 @@ pub fn writes(out: &mut [u8], at: usize, pairs: &[u8], count: usize) -> usize
     next
 }
 
-pub fn refused(out: &mut [u8], at: usize, number: usize, refusal: u8) -> usize
+pub(crate) fn refused(out: &mut [u8], at: usize, number: usize, refusal: u8) -> usize
     requires { ⌜ Within at (refusedLine number refusal) ⌝ }
     ensures { λ r. ⌜ Adds (refusedLine number refusal) (now (out .entry)) at r (now (out .exit)) ⌝ }
 {
@@ -68,7 +75,7 @@ pub fn refused(out: &mut [u8], at: usize, number: usize, refusal: u8) -> usize
     output::put(out, b, b'\n')
 }
 
-pub fn end(out: &mut [u8], at: usize, plans: usize) -> usize
+pub(crate) fn end(out: &mut [u8], at: usize, plans: usize) -> usize
     requires { ⌜ Within at (endLine plans) ⌝ }
     ensures { λ r. ⌜ Adds (endLine plans) (now (out .entry)) at r (now (out .exit)) ⌝ }
 {

@@ -8,7 +8,7 @@ ghost use Rattle.translation.specs.Parts.{Within, Adds};
 
 const DIGITS: [u8; 16] = *b"0123456789ABCDEF";
 
-pub fn digit(d: usize) -> u8
+pub(crate) fn digit(d: usize) -> u8
     requires { ⌜ d < 16 ⌝ }
     ensures { λ r. ⌜ r ≡ Words·digit d ⌝ }
 {
@@ -28,7 +28,7 @@ fn decimal(out: &mut [u8], at: usize, n: usize) -> usize
 }
 
 // A word and a number behind it.
-pub fn field(out: &mut [u8], at: usize, word: &[u8], n: usize) -> usize
+pub(crate) fn field(out: &mut [u8], at: usize, word: &[u8], n: usize) -> usize
     requires { ⌜ Within at (now word ++ Words·decimal n) ⌝ }
     ensures { λ r. ⌜ Adds (now (word .entry) ++ Words·decimal n) (now (out .entry)) at r (now (out .exit)) ⌝ }
 {

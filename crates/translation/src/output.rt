@@ -3,7 +3,7 @@ ghost use Prim.Native.Nat.{_<_};
 ghost use mathlib.Core.List.{[], _∷_};
 ghost use Rattle.translation.specs.Parts.{Within, Adds};
 
-pub fn put(out: &mut [u8], at: usize, byte: u8) -> usize
+pub(crate) fn put(out: &mut [u8], at: usize, byte: u8) -> usize
     requires { ⌜ at < 65536 ⌝ }
     ensures { λ r. ⌜ Adds (byte ∷ []) (now (out .entry)) at r (now (out .exit)) ⌝ }
 {
@@ -13,7 +13,7 @@ pub fn put(out: &mut [u8], at: usize, byte: u8) -> usize
     at + 1
 }
 
-pub fn append(out: &mut [u8], at: usize, text: &[u8]) -> usize
+pub(crate) fn append(out: &mut [u8], at: usize, text: &[u8]) -> usize
     requires { ⌜ Within at (now text) ⌝ }
     ensures { λ r. ⌜ Adds (now (text .entry)) (now (out .entry)) at r (now (out .exit)) ⌝ }
 {
