@@ -14,7 +14,7 @@ ghost use Rattle.cards.specs.declared.Chip.the-variants.{F75373s};
 ghost use Rattle.cards.specs.F75373s.{card};
 ghost use Rattle.cards.specs.Rows.{rowIn};
 
-pub fn row(address: u8) -> Row
+pub(crate) fn row(address: u8) -> Row
     ensures { λ r. ⌜ r ≡ rowIn card address ⌝ }
 {
     let at = address as usize;
@@ -25,7 +25,7 @@ pub fn row(address: u8) -> Row
     }
 }
 
-pub fn table_at(number: u8) -> Place
+pub(crate) fn table_at(number: u8) -> Place
     ensures { λ r. ⌜ Places F75373s number r ⌝ }
 {
     match number {

@@ -11,7 +11,7 @@ ghost use mathlib.Core.Path.{_≡_};
 ghost use Rattle.cards.specs.Nct80.{card};
 ghost use Rattle.cards.specs.Rows.{rowIn};
 
-pub fn row(address: u8) -> Row
+pub(crate) fn row(address: u8) -> Row
     ensures { λ r. ⌜ r ≡ rowIn card address ⌝ }
 {
     let at = address as usize;

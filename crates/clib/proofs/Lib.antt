@@ -1,4 +1,2 @@
 pub mod Within
-pub mod Crossed
-pub mod Found
 pub mod Unique

@@ -1,11 +1,19 @@
--- No second answer meets a contract of the boundary, and no other bytes; and what is packed tells its refusal and its value.
+-- No second answer meets a contract of the boundary, and no other bytes: the library's own answer is the only one, and what is packed tells its
+-- refusal and its value.
 -- Assumes nothing.
 use Prim.Native.Nat.{ℕ, _<_}
 use native.Mathlib.Omega.{arith}
-use mathlib.Core.Path.{_≡_, sym, _∙_}
+use mathlib.Core.Path.{_≡_, sym, ap, _∙_}
 use mathlib.Core.List.{List}
 use lib.IntN.{ℤ}
-use Rattle.clib.specs.Packed.{packed, YkWrite, YkRead, YkReset, YkIdentity, YkSteps, YkBytes, YkMicrovolts, YkSample, YkAcknowledge, YkReadRecord, YkWriteRecord, YkAskedOfPlan, YkAskedOfImage, YkScript, YkPlay, YkTranslate}
+use Rattle.images.proofs.Unique as images
+use Rattle.readings.proofs.Unique as readings
+use Rattle.watch.proofs.Unique as watch
+use Rattle.plans.proofs.Unique as plans
+use Rattle.records.proofs.Unique as records
+use Rattle.scripts.proofs.Unique as scripts
+use Rattle.translation.proofs.Unique as translation
+use Rattle.clib.specs.Packed.{packed, Answers, YkWrite, YkRead, YkReset, YkIdentity, YkSteps, YkBytes, YkMicrovolts, YkSample, YkAcknowledge, YkReadRecord, YkWriteRecord, YkAskedOfPlan, YkAskedOfImage, YkScript, YkPlay, YkTranslate}
 
 pub packed-refusal : (a b v w : ℕ) → a < 256 → b < 256 → packed a v ≡ packed b w → a ≡ b
 packed-refusal a b v w h k e = omega arith
@@ -16,55 +24,55 @@ packed-value a b v w h k e = omega arith
 pub packed-injective : (a b v w : ℕ) → a < 256 → b < 256 → packed a v ≡ packed b w → (a ≡ b) × (v ≡ w)
 packed-injective a b v w h k e = (packed-refusal a b v w h k e, packed-value a b v w h k e)
 
-pub write-unique : {chip : ℕ} {old : List ℕ} {address byte : ℕ} {r s : ℕ} {l m : List ℕ}
-    → YkWrite chip old address byte r l → YkWrite chip old address byte s m → (r ≡ s) × (l ≡ m)
-write-unique p q = (p .answer ∙ sym (q .answer), p .bytes ∙ sym (q .bytes))
+-- where two promises have one answer, what is packed of it is one number
+answers-unique : {A : Type 0} {pack : A → ℕ} {P Q : A → Type 0} {r s : ℕ} → ((a b : A) → P a → Q b → a ≡ b)
+    → Answers pack P r → Answers pack Q s → r ≡ s
+answers-unique {pack = pack} one p q = p .same ∙ ap pack (one (p .answer) (q .answer) (p .kept) (q .kept)) ∙ sym (q .same)
+
+pub write-unique : {chip : ℕ} {old : List ℕ} {address byte : ℕ} {r s : ℕ} {l m : List ℕ} → YkWrite chip old address byte r l → YkWrite chip old address byte s m → (r ≡ s) × (l ≡ m)
+write-unique p q = (answers-unique (λ a b k l. images.writes-unique k l .0) p q, images.writes-unique (p .kept) (q .kept) .1)
 
 pub read-unique : {chip : ℕ} {image : List ℕ} {address : ℕ} {r s : ℕ} → YkRead chip image address r → YkRead chip image address s → r ≡ s
-read-unique p q = p .answer ∙ sym (q .answer)
+read-unique p q = answers-unique (λ a b k l. images.reads-unique k l) p q
 
-pub reset-unique : {chip : ℕ} {old : List ℕ} {r s : ℕ} {l m : List ℕ}
-    → YkReset chip old r l → YkReset chip old s m → (r ≡ s) × (l ≡ m)
-reset-unique p q = (p .answer ∙ sym (q .answer), p .bytes ∙ sym (q .bytes))
+pub reset-unique : {chip : ℕ} {old : List ℕ} {r s : ℕ} {l m : List ℕ} → YkReset chip old r l → YkReset chip old s m → (r ≡ s) × (l ≡ m)
+reset-unique p q = (answers-unique (λ a b k l. images.resets-unique k l .0) p q, images.resets-unique (p .kept) (q .kept) .1)
 
 pub identity-unique : {chip : ℕ} {image : List ℕ} {r s : ℕ} → YkIdentity chip image r → YkIdentity chip image s → r ≡ s
-identity-unique p q = p .answer ∙ sym (q .answer)
+identity-unique p q = answers-unique (λ a b k l. images.confirms-unique k l) p q
 
 pub steps-unique : {width high low : ℕ} {r s : ℕ} → YkSteps width high low r → YkSteps width high low s → r ≡ s
-steps-unique p q = p .answer ∙ sym (q .answer)
+steps-unique p q = answers-unique (λ a b k l. readings.counts-unique k l) p q
 
 pub bytes-unique : {width : ℕ} {steps : ℤ} {r s : ℕ} → YkBytes width steps r → YkBytes width steps s → r ≡ s
-bytes-unique p q = p .answer ∙ sym (q .answer)
+bytes-unique p q = answers-unique (λ a b k l. readings.writes-unique k l) p q
 
 pub microvolts-unique : {word : ℕ} {r s : ℕ} → YkMicrovolts word r → YkMicrovolts word s → r ≡ s
-microvolts-unique p q = p .answer ∙ sym (q .answer)
+microvolts-unique p q = answers-unique (λ a b k l. readings.measures-unique k l) p q
 
-pub sample-unique : {behaviour facts : ℕ} {steps high hysteresis : ℤ} {r s : ℕ} → YkSample behaviour facts steps high hysteresis r → YkSample behaviour facts steps high hysteresis s → r ≡ s
-sample-unique p q = p .answer ∙ sym (q .answer)
+pub sample-unique : (behaviour facts : ℕ) (steps high hysteresis : ℤ) {r s : ℕ} → YkSample behaviour facts steps high hysteresis r → YkSample behaviour facts steps high hysteresis s → r ≡ s
+sample-unique behaviour facts steps high hysteresis p q = answers-unique (λ a b k l. watch.samples-unique k l) p q
 
-pub acknowledge-unique : {behaviour facts : ℕ} {r s : ℕ} → YkAcknowledge behaviour facts r → YkAcknowledge behaviour facts s → r ≡ s
-acknowledge-unique p q = p .answer ∙ sym (q .answer)
+pub acknowledge-unique : (behaviour facts : ℕ) {r s : ℕ} → YkAcknowledge behaviour facts r → YkAcknowledge behaviour facts s → r ≡ s
+acknowledge-unique behaviour facts p q = answers-unique (λ a b k l. watch.acknowledges-unique k l) p q
 
 pub read-record-unique : {bytes : List ℕ} {r s : ℕ} → YkReadRecord bytes r → YkReadRecord bytes s → r ≡ s
-read-record-unique p q = p .answer ∙ sym (q .answer)
+read-record-unique p q = answers-unique (λ a b k l. records.reads-unique k l) p q
 
-pub write-record-unique : {chip table : ℕ} {body old : List ℕ} {r s : ℕ} {l m : List ℕ}
-    → YkWriteRecord chip table body old r l → YkWriteRecord chip table body old s m → (r ≡ s) × (l ≡ m)
-write-record-unique p q = (p .answer ∙ sym (q .answer), p .bytes ∙ sym (q .bytes))
+pub write-record-unique : (chip table : ℕ) (body old : List ℕ) {r s : ℕ} {l m : List ℕ} → YkWriteRecord chip table body old r l → YkWriteRecord chip table body old s m → (r ≡ s) × (l ≡ m)
+write-record-unique chip table body old p q = (answers-unique (λ a b k l. records.writes-unique k l .0) p q, records.writes-unique (p .kept) (q .kept) .1)
 
-pub asked-of-plan-unique : {chip table : ℕ} {body : List ℕ} {t : ℕ} {r s : ℕ} → YkAskedOfPlan chip table body t r → YkAskedOfPlan chip table body t s → r ≡ s
-asked-of-plan-unique p q = p .answer ∙ sym (q .answer)
+pub asked-of-plan-unique : (chip table : ℕ) (body : List ℕ) (t : ℕ) {r s : ℕ} → YkAskedOfPlan chip table body t r → YkAskedOfPlan chip table body t s → r ≡ s
+asked-of-plan-unique chip table body t p q = answers-unique (λ a b k l. plans.asksPlan-unique k l) p q
 
 pub asked-of-image-unique : {chip table : ℕ} {image : List ℕ} {t : ℕ} {r s : ℕ} → YkAskedOfImage chip table image t r → YkAskedOfImage chip table image t s → r ≡ s
-asked-of-image-unique p q = p .answer ∙ sym (q .answer)
+asked-of-image-unique p q = answers-unique (λ a b k l. plans.asksImage-unique k l) p q
 
-pub script-unique : {chip table : ℕ} {body old : List ℕ} {r s : ℕ} {l m : List ℕ}
-    → YkScript chip table body old r l → YkScript chip table body old s m → (r ≡ s) × (l ≡ m)
-script-unique p q = (p .answer ∙ sym (q .answer), p .bytes ∙ sym (q .bytes))
+pub script-unique : (chip table : ℕ) (body old : List ℕ) {r s : ℕ} {l m : List ℕ} → YkScript chip table body old r l → YkScript chip table body old s m → (r ≡ s) × (l ≡ m)
+script-unique chip table body old p q = (answers-unique (λ a b k l. scripts.scripts-unique k l .0) p q, scripts.scripts-unique (p .kept) (q .kept) .1)
 
-pub play-unique : {chip table : ℕ} {body old : List ℕ} {count : ℕ} {r s : ℕ} {l m : List ℕ}
-    → YkPlay chip table body old count r l → YkPlay chip table body old count s m → (r ≡ s) × (l ≡ m)
-play-unique p q = (p .answer ∙ sym (q .answer), p .bytes ∙ sym (q .bytes))
+pub play-unique : (chip table : ℕ) (body old : List ℕ) (count : ℕ) {r s : ℕ} {l m : List ℕ} → YkPlay chip table body old count r l → YkPlay chip table body old count s m → (r ≡ s) × (l ≡ m)
+play-unique chip table body old count p q = (answers-unique (λ a b k l. scripts.plays-unique k l .0) p q, scripts.plays-unique (p .kept) (q .kept) .1)
 
 pub translate-unique : {input old : List ℕ} {r s : ℕ} {l m : List ℕ} → YkTranslate input old r l → YkTranslate input old s m → (r ≡ s) × (l ≡ m)
-translate-unique p q = (p .answer ∙ sym (q .answer), p .bytes ∙ sym (q .bytes))
+translate-unique p q = (answers-unique (λ a b k l. translation.translates-unique k l .0) p q, translation.translates-unique (p .kept) (q .kept) .1)

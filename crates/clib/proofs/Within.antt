@@ -1,12 +1,15 @@
 -- What a call answers beside its refusal number is small: no record has more than 18 bytes, no script more than 25 writes, no text more than 40,979 bytes.
 -- Assumes nothing.
-use Prim.Native.Nat.{ℕ, zero, suc, _+_, _-_, _≤_, _<_, _^_}
+use Prim.Native.Nat.{ℕ, zero, suc, _+_, _-_, _≤_, _<_, _^_, min}
+use native.Mathlib.Nat.{min-le-right}
 use native.Mathlib.Omega.{arith}
 use mathlib.Core.Path.{_≡_, refl, ap}
 use mathlib.Core.Bool.{Bool, true, false, cond}
 use mathlib.Core.List.{List, [], _∷_, _++_}
 use lib.Dec.{eqb}
 use lib.ListN.{length, getD, length-append}
+use Rattle.refusal.specs.declared.Count.{Count}
+use Rattle.refusal.specs.Answers.{tellsCount}
 use Rattle.refusal.specs.Checks.{Check, first, told}
 use Rattle.cards.specs.declared.Chip.{Chip}
 use Rattle.cards.specs.declared.Chip.the-variants.{Nct7802y, F75373s, Nct80}
@@ -20,11 +23,10 @@ use Rattle.plans.specs.declared.Plan.{Plan}
 use Rattle.plans.specs.Curves.{points, words}
 use Rattle.plans.specs.Orders.{fulls}
 use Rattle.plans.specs.Plans.{planned, decoded}
-use Rattle.records.specs.Records.{Sized, roomChecks, recordOf, encoded, header, body, bodyLength}
+use Rattle.records.specs.Records.{Sized, roomChecks, writeChecks, recordOf, encoded, header, body, bodyLength, recordLength, chipIn, Writes}
 use Rattle.records.proofs.Encoding.{body-of-plan}
-use Rattle.scripts.specs.Scripts.{scriptOf, scriptFor, fullOf}
-use Rattle.translation.specs.declared.Text.{Text}
-use Rattle.translation.specs.Text.{textOf, tells, Translates}
+use Rattle.scripts.specs.Scripts.{scriptOf, scriptFor, fullOf, scriptChecks, playChecks, Scripts, Plays}
+use Rattle.translation.specs.Text.{textOf, Translates}
 use Rattle.translation.proofs.Bound.{text-short}
 use Rattle.clib.specs.Bodies.{planFrom, unnamed}
 
@@ -58,7 +60,7 @@ encoded-short (Known chip) plan S =
     omega (arith, length-append (header (plan .chip) (plan .table)) (body (planned chip plan)), body-of-plan chip plan S, body-short chip)
 encoded-short Unknown plan S = omega arith
 
-pub record-within : (chip table : ℕ) (bytes : List ℕ) → length (encoded (planFrom chip table bytes)) ≤ 18
+record-within : (chip table : ℕ) (bytes : List ℕ) → length (encoded (planFrom chip table bytes)) ≤ 18
 record-within chip table bytes =
     encoded-short (chipOf (planFrom chip table bytes .chip)) (planFrom chip table bytes) (plan-sized chip table bytes)
 
@@ -102,14 +104,35 @@ script-short chip plan =
       table-short chip (plan .table) .1,
     )
 
-pub script-within : (plan : Plan) → length (scriptFor plan) ≤ 25
+script-within : (plan : Plan) → length (scriptFor plan) ≤ 25
 script-within plan = by-name (chipOf (plan .chip))
   where
     by-name : (named : Named) → length (whenKnown named (λ c. scriptOf c plan) []) ≤ 25
     by-name (Known chip) = script-short chip plan
     by-name Unknown = omega arith
 
--- no text is longer than 40,979 bytes
-pub text-within : {input old new : List ℕ} {r : Text} → Translates input old r new → tells r .1 < 2 ^ 56
-text-within {input} {old} p =
+pub used-within : (bytes : List ℕ) → whenKnown (chipOf (chipIn bytes)) recordLength 0 < 2 ^ 16
+used-within bytes = by-name (chipOf (chipIn bytes))
+  where
+    by-name : (named : Named) → whenKnown named recordLength 0 < 2 ^ 16
+    by-name (Known chip) = omega (arith, body-short chip)
+    by-name Unknown = omega arith
+
+-- so what a call counts has room above the refusal number
+pub record-room : (chip table : ℕ) (body : List ℕ) {old new : List ℕ} {r : Count} → Writes (planFrom chip table body) old r new → tellsCount r .1 < 2 ^ 56
+record-room chip table body {old} p =
+    let plan = planFrom chip table body in
+    told-within (writeChecks plan old) (length (encoded plan)) (2 ^ 56) (omega (arith, record-within chip table body)) (p .answer)
+
+pub script-room : {plan : Plan} {old new : List ℕ} {r : Count} → Scripts plan old r new → tellsCount r .1 < 2 ^ 56
+script-room {plan} {old} p =
+    told-within (scriptChecks plan old) (length (scriptFor plan)) (2 ^ 56) (omega (arith, script-within plan)) (p .answer)
+
+pub play-room : {plan : Plan} {count : ℕ} {old new : List ℕ} {r : Count} → Plays plan old count r new → tellsCount r .1 < 2 ^ 56
+play-room {plan} {count} {old} p =
+    told-within (playChecks plan old) (min count (length (scriptFor plan))) (2 ^ 56)
+    (omega (arith, script-within plan, min-le-right count (length (scriptFor plan)))) (p .answer)
+
+pub text-room : {input old new : List ℕ} {r : Count} → Translates input old r new → tellsCount r .1 < 2 ^ 56
+text-room {input} {old} p =
     told-within (roomChecks (textOf input) old) (length (textOf input)) (2 ^ 56) (omega (arith, text-short input)) (p .answer)

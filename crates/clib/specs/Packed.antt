@@ -1,26 +1,30 @@
--- The one number that a call of the boundary answers, and what each call promises for every input: that number, and every byte of each lent buffer.
--- A buffer that no record names a second time is only read, so it holds what it held.
+-- The one number that a call of the boundary answers, and what each call promises for every input: what the library's own call promises of
+-- the same input, every byte of each lent buffer with it, and its answer packed.
 -- Assumes nothing.
-use Prim.Native.Nat.{ℕ, _+_, _*_, min}
+use Prim.Native.Nat.{ℕ, _+_, _*_}
 use mathlib.Core.Path.{_≡_}
 use mathlib.Core.Bool.{cond}
-use mathlib.Core.List.{List, [], _∷_, _++_}
+use mathlib.Core.List.{List}
 use lib.Dec.{eqb}
-use lib.IntN.{ℤ, pos}
-use lib.ListN.{length, getD, take, drop}
-use Rattle.refusal.specs.Checks.{first, toldOr, told, left}
-use Rattle.cards.specs.Cards.{chipOf, whenKnown, unknown, noTable, powerOn, tableOf}
-use Rattle.images.specs.Bytes.{written}
-use Rattle.images.specs.Images.{imageChecks, identityChecks, notAnImage}
-use Rattle.readings.specs.Readings.{asWord, stepsAt, bytesAt, voltage}
-use Rattle.readings.specs.Promises.{stepsChecks, bytesChecks}
+use lib.IntN.{ℤ}
+use Rattle.refusal.specs.declared.Outcome.{Outcome}
+use Rattle.refusal.specs.declared.Count.{Count}
+use Rattle.refusal.specs.Answers.{tells, tellsCount}
+use Rattle.images.specs.declared.ByteRead.{ByteRead}
+use Rattle.images.specs.Images as images
+use Rattle.readings.specs.declared.Steps.{Steps}
+use Rattle.readings.specs.declared.Bytes.{Bytes}
+use Rattle.readings.specs.Readings.{asWord}
+use Rattle.readings.specs.Promises as readings
 use Rattle.watch.specs.declared.Watch.{Watch}
-use Rattle.watch.specs.Alarm.{sample, after, acknowledged}
-use Rattle.watch.specs.Promises.{sampleChecks}
-use Rattle.plans.specs.Plans.{planned, held, asks}
-use Rattle.records.specs.Records.{chipIn, tableIn, recordLength, recordChecks, encoded, writeChecks, roomChecks}
-use Rattle.scripts.specs.Scripts.{scriptOf, scriptFor, scriptChecks, playChecks, flat, played}
-use Rattle.translation.specs.Text.{textOf}
+use Rattle.watch.specs.declared.Sampled.{Sampled}
+use Rattle.watch.specs.Promises as watch
+use Rattle.plans.specs.declared.Asked.{Asked}
+use Rattle.plans.specs.Plans as plans
+use Rattle.records.specs.declared.Found.{Found}
+use Rattle.records.specs.Records as records
+use Rattle.scripts.specs.Scripts as scripts
+use Rattle.translation.specs.Text as translation
 use Rattle.clib.specs.Facts.{watchOf, factsOf}
 use Rattle.clib.specs.Bodies.{planFrom}
 
@@ -28,118 +32,98 @@ use Rattle.clib.specs.Bodies.{planFrom}
 abbrev pub packed : ℕ → ℕ → ℕ
 packed refusal value = refusal + 256 * value
 
--- the paper's number and a value
+-- what an answer tells, packed: the paper's number and a value
 abbrev pub packs : ℕ × ℕ → ℕ
 packs t = packed (t .0) (t .1)
 
--- .. and two bytes, "high byte first"
-abbrev pub packsPair : ℕ × (ℕ × ℕ) → ℕ
-packsPair t = packed (t .0) (t .1 .0 * 256 + t .1 .1)
+abbrev pub packsOutcome : Outcome → ℕ
+packsOutcome a = packed (tells a) 0
 
--- .. and a count of steps, as a 16-bit two's complement number
-abbrev pub packsWord : ℕ × ℤ → ℕ
-packsWord t = packed (t .0) (asWord (t .1))
+abbrev pub packsCount : Count → ℕ
+packsCount a = packs (tellsCount a)
 
--- .. and the facts of a watch
-abbrev pub packsWatch : ℕ × Watch → ℕ
-packsWatch t = packed (t .0) (factsOf (t .1))
+abbrev pub packsByte : ByteRead → ℕ
+packsByte a = packs (images.tellsByte a)
 
--- .. and the bytes used, with the chip and the table above them where the record is read
-abbrev pub packsFound : ℕ × ℕ → ℕ → ℕ → ℕ
-packsFound t chip table = packed (t .0) (cond (eqb (t .0) 0) (t .1 + 256 * chip + 65536 * table) 0)
+abbrev pub packsAsked : Asked → ℕ
+packsAsked a = packs (plans.tellsAsked a)
 
--- what `yk_write` promises
-pub record YkWrite (chip : ℕ) (old : List ℕ) (address byte r : ℕ) (new : List ℕ) : Type 0 where
-  pub answer : r ≡ packed (first (imageChecks chip old)) 0
-  pub bytes : new ≡ left (imageChecks chip old) (whenKnown (chipOf chip) (λ c. written c address byte old) old) old
+-- two bytes, "high byte first"
+abbrev pub packsBytes : Bytes → ℕ
+packsBytes a = packed (readings.tellsBytes a .0) (readings.tellsBytes a .1 .0 * 256 + readings.tellsBytes a .1 .1)
 
--- what `yk_read` promises
-pub record YkRead (chip : ℕ) (image : List ℕ) (address r : ℕ) : Type 0 where
-  pub answer : r ≡ packs (told (imageChecks chip image) (getD image address 0))
+-- a count of steps, as a 16-bit two's complement number
+abbrev pub packsSteps : Steps → ℕ
+packsSteps a = packed (readings.tellsSteps a .0) (asWord (readings.tellsSteps a .1))
 
--- what `yk_reset` promises
-pub record YkReset (chip : ℕ) (old : List ℕ) (r : ℕ) (new : List ℕ) : Type 0 where
-  pub answer : r ≡ packed (first (imageChecks chip old)) 0
-  pub bytes : new ≡ left (imageChecks chip old) (whenKnown (chipOf chip) powerOn old) old
+abbrev pub packsWatch : Watch → ℕ
+packsWatch w = packed 0 (factsOf w)
 
--- what `yk_identity` promises
-pub record YkIdentity (chip : ℕ) (image : List ℕ) (r : ℕ) : Type 0 where
-  pub answer : r ≡ packed (first (identityChecks chip image)) 0
+abbrev pub packsSampled : Sampled → ℕ
+packsSampled a = packed (watch.tells a .0) (factsOf (watch.tells a .1))
 
--- what `yk_steps` promises
-pub record YkSteps (width high low r : ℕ) : Type 0 where
-  pub answer : r ≡ packsWord (toldOr (pos 0) (stepsChecks width) (stepsAt width high low))
+-- the bytes used, with the chip and the table above them where the record is read
+abbrev pub packsUsed : Count → ℕ → ℕ → ℕ
+packsUsed a chip table =
+    packed (tellsCount a .0) (cond (eqb (tellsCount a .0) 0) (tellsCount a .1 + 256 * chip + 65536 * table) 0)
 
--- what `yk_bytes` promises
-pub record YkBytes (width : ℕ) (steps : ℤ) (r : ℕ) : Type 0 where
-  pub answer : r ≡ packsPair (toldOr (0, 0) (bytesChecks width steps) (bytesAt width steps))
+abbrev pub packsFound : Found → ℕ
+packsFound f = packsUsed (f .answer) (f .plan .chip) (f .plan .table)
 
--- what `yk_microvolts` promises
-pub record YkMicrovolts (word r : ℕ) : Type 0 where
-  pub answer : r ≡ packed 0 (voltage word)
+-- A number is packed of an answer that keeps the library's own promise.
+pub record Answers {A : Type 0} (pack : A → ℕ) (Promise : A → Type 0) (r : ℕ) : Type 0 where
+  pub answer : A
+  pub kept : Promise answer
+  pub same : r ≡ pack answer
 
--- what `yk_sample` promises: a refused sample answers the facts as they were
-pub record YkSample (behaviour facts : ℕ) (steps high hysteresis : ℤ) (r : ℕ) : Type 0 where
-  pub answer :
-      r ≡ packed (first (sampleChecks steps)) (factsOf (after (watchOf behaviour facts) (sample steps high hysteresis)))
+-- What each `yk_..` promises. A body and an input are only read, so they hold what they held.
+abbrev pub YkWrite : ℕ → List ℕ → ℕ → ℕ → ℕ → List ℕ → Type 0
+YkWrite chip old address byte r new = Answers packsOutcome (λ a. images.Writes chip old address byte a new) r
 
--- what `yk_acknowledge` promises
-pub record YkAcknowledge (behaviour facts r : ℕ) : Type 0 where
-  pub answer : r ≡ packed 0 (factsOf (acknowledged (watchOf behaviour facts)))
+abbrev pub YkRead : ℕ → List ℕ → ℕ → ℕ → Type 0
+YkRead chip image address r = Answers packsByte (λ a. images.Reads chip image address a) r
 
--- what `yk_read_record` promises: the body stands in the bytes from 4 to the bytes used
-pub record YkReadRecord (bytes : List ℕ) (r : ℕ) : Type 0 where
-  pub answer :
-      r
-      ≡ packs (told (recordChecks bytes)
-      (whenKnown (chipOf (chipIn bytes)) recordLength 0 + 256 * chipIn bytes + 65536 * tableIn bytes))
+abbrev pub YkReset : ℕ → List ℕ → ℕ → List ℕ → Type 0
+YkReset chip old r new = Answers packsOutcome (λ a. images.Resets chip old a new) r
 
--- what `yk_write_record` promises
-pub record YkWriteRecord (chip table : ℕ) (body old : List ℕ) (r : ℕ) (new : List ℕ) : Type 0 where
-  pub answer :
-      r ≡ packs (told (writeChecks (planFrom chip table body) old) (length (encoded (planFrom chip table body))))
-  pub bytes :
-      new
-      ≡ left (writeChecks (planFrom chip table body) old)
-      (encoded (planFrom chip table body) ++ drop (length (encoded (planFrom chip table body))) old)
-      old
+abbrev pub YkIdentity : ℕ → List ℕ → ℕ → Type 0
+YkIdentity chip image r = Answers packsOutcome (λ a. images.Confirms chip image a) r
 
--- what `yk_asked_of_plan` promises
-pub record YkAskedOfPlan (chip table : ℕ) (body : List ℕ) (t r : ℕ) : Type 0 where
-  pub answer :
-      r
-      ≡ packs (told ((unknown (planFrom chip table body .chip), 3) ∷ (noTable (planFrom chip table body .chip) (planFrom chip table body .table), 4) ∷ [])
-      (whenKnown (chipOf (planFrom chip table body .chip)) (λ c. asks c (planned c (planFrom chip table body)) t) 0))
+abbrev pub YkSteps : ℕ → ℕ → ℕ → ℕ → Type 0
+YkSteps width high low r = Answers packsSteps (λ a. readings.Counts width high low a) r
 
--- what `yk_asked_of_image` promises
-pub record YkAskedOfImage (chip table : ℕ) (image : List ℕ) (t r : ℕ) : Type 0 where
-  pub answer :
-      r
-      ≡ packs (told ((unknown chip, 3) ∷ (noTable chip table, 4) ∷ (notAnImage image, 8) ∷ [])
-      (whenKnown (chipOf chip) (λ c. asks c (held (tableOf c table) image) t) 0))
+abbrev pub YkBytes : ℕ → ℤ → ℕ → Type 0
+YkBytes width steps r = Answers packsBytes (λ a. readings.Writes width steps a) r
 
--- what `yk_script` promises
-pub record YkScript (chip table : ℕ) (body old : List ℕ) (r : ℕ) (new : List ℕ) : Type 0 where
-  pub answer :
-      r ≡ packs (told (scriptChecks (planFrom chip table body) old) (length (scriptFor (planFrom chip table body))))
-  pub bytes :
-      new
-      ≡ left (scriptChecks (planFrom chip table body) old)
-      (flat (scriptFor (planFrom chip table body)) ++ drop (2 * length (scriptFor (planFrom chip table body))) old)
-      old
+abbrev pub YkMicrovolts : ℕ → ℕ → Type 0
+YkMicrovolts word r = Answers (λ v. packed 0 v) (λ v. readings.Measures word v) r
 
--- what `yk_play` promises
-pub record YkPlay (chip table : ℕ) (body old : List ℕ) (count r : ℕ) (new : List ℕ) : Type 0 where
-  pub answer :
-      r
-      ≡ packs (told (playChecks (planFrom chip table body) old) (min count (length (scriptFor (planFrom chip table body)))))
-  pub bytes :
-      new
-      ≡ left (playChecks (planFrom chip table body) old)
-      (whenKnown (chipOf (planFrom chip table body .chip)) (λ c. played c (take count (scriptOf c (planFrom chip table body))) old) old)
-      old
+-- a refused sample answers the facts as they were
+abbrev pub YkSample : ℕ → ℕ → ℤ → ℤ → ℤ → ℕ → Type 0
+YkSample behaviour facts steps high hysteresis r =
+    Answers packsSampled (λ a. watch.Samples (watchOf behaviour facts) steps high hysteresis a) r
 
--- what `yk_translate` promises
-pub record YkTranslate (input old : List ℕ) (r : ℕ) (new : List ℕ) : Type 0 where
-  pub answer : r ≡ packs (told (roomChecks (textOf input) old) (length (textOf input)))
-  pub bytes : new ≡ left (roomChecks (textOf input) old) (textOf input ++ drop (length (textOf input)) old) old
+abbrev pub YkAcknowledge : ℕ → ℕ → ℕ → Type 0
+YkAcknowledge behaviour facts r = Answers packsWatch (λ w. watch.Acknowledges (watchOf behaviour facts) w) r
+
+-- the body of a record that is read stands in its bytes, from the fifth on
+abbrev pub YkReadRecord : List ℕ → ℕ → Type 0
+YkReadRecord bytes r = Answers packsFound (λ f. records.Reads bytes f) r
+
+abbrev pub YkWriteRecord : ℕ → ℕ → List ℕ → List ℕ → ℕ → List ℕ → Type 0
+YkWriteRecord chip table body old r new = Answers packsCount (λ a. records.Writes (planFrom chip table body) old a new) r
+
+abbrev pub YkAskedOfPlan : ℕ → ℕ → List ℕ → ℕ → ℕ → Type 0
+YkAskedOfPlan chip table body t r = Answers packsAsked (λ a. plans.AsksPlan (planFrom chip table body) t a) r
+
+abbrev pub YkAskedOfImage : ℕ → ℕ → List ℕ → ℕ → ℕ → Type 0
+YkAskedOfImage chip table image t r = Answers packsAsked (λ a. plans.AsksImage chip table image t a) r
+
+abbrev pub YkScript : ℕ → ℕ → List ℕ → List ℕ → ℕ → List ℕ → Type 0
+YkScript chip table body old r new = Answers packsCount (λ a. scripts.Scripts (planFrom chip table body) old a new) r
+
+abbrev pub YkPlay : ℕ → ℕ → List ℕ → List ℕ → ℕ → ℕ → List ℕ → Type 0
+YkPlay chip table body old count r new = Answers packsCount (λ a. scripts.Plays (planFrom chip table body) old count a new) r
+
+abbrev pub YkTranslate : List ℕ → List ℕ → ℕ → List ℕ → Type 0
+YkTranslate input old r new = Answers packsCount (λ a. translation.Translates input old a new) r

@@ -3,12 +3,11 @@ use crate::facts;
 use crate::packing;
 use watch::Sampled;
 ghost use mathlib.Core.Path.{_≡_};
-ghost use Rattle.watch.specs.Promises.{tells};
-ghost use Rattle.clib.specs.Packed.{packsWatch, YkSample, YkAcknowledge};
+ghost use Rattle.clib.specs.Packed.{packsSampled, YkSample, YkAcknowledge};
 
 // "a watch comes back unchanged": a refused sample answers the facts too.
 fn of_sampled(sampled: Sampled) -> u64
-    ensures { λ r. ⌜ r ≡ packsWatch (tells sampled) ⌝ }
+    ensures { λ r. ⌜ r ≡ packsSampled sampled ⌝ }
 {
     match sampled {
         Sampled::Taken(watch) => packing::packed(0, facts::facts_of(watch)),

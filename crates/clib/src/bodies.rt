@@ -20,7 +20,7 @@ fn unnamed(chip: u8, table: u8) -> Plan
 }
 
 // Missing bytes count as zero, and further ones are ignored.
-pub fn plan_from(chip: u8, table: u8, body: &[u8]) -> Plan
+pub(crate) fn plan_from(chip: u8, table: u8, body: &[u8]) -> Plan
     ensures { λ r. ⌜ r ≡ planFrom chip table (now (body .entry)) ⌝ }
 {
     match cards::chip_of(chip) {

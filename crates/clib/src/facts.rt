@@ -5,7 +5,7 @@ ghost use mathlib.Core.Path.{_≡_};
 ghost use Prim.Native.Nat.{_≤_, _<_};
 ghost use Rattle.clib.specs.Facts.{bit, behaviourOf, watchOf, factsOf};
 
-pub fn behaviour_of(number: u8) -> Behaviour
+pub(crate) fn behaviour_of(number: u8) -> Behaviour
     ensures { λ r. ⌜ r ≡ behaviourOf number ⌝ }
 {
     match number {
@@ -15,7 +15,7 @@ pub fn behaviour_of(number: u8) -> Behaviour
     }
 }
 
-pub fn watch_of(behaviour: u8, facts: u8) -> Watch
+pub(crate) fn watch_of(behaviour: u8, facts: u8) -> Watch
     ensures { λ r. ⌜ r ≡ watchOf behaviour facts ⌝ }
 {
     Watch {
@@ -33,7 +33,7 @@ fn bit(fact: bool) -> u64
 }
 
 // The facts of a watch, and what its output shows.
-pub fn facts_of(watch: Watch) -> u64
+pub(crate) fn facts_of(watch: Watch) -> u64
     ensures { λ r. ⌜ r ≡ factsOf watch ⌝ }
     ensures { λ r. ⌜ r < 8 ⌝ }
 {

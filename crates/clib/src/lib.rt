@@ -9,4 +9,3 @@ mod plan_scripts;
 mod registers;
 mod temperatures;
 mod texts;
-mod words;

@@ -1,20 +1,14 @@
 // The one number that every call answers: the refusal number in its low byte, the value above it.
 use images::ByteRead;
-use images::Outcome;
 use plans::Asked;
 use readings::Bytes;
-use records::Used;
-use scripts::Made;
-use translation::Text;
+use readings::Steps;
+use refusal::Count;
+use refusal::Outcome;
 ghost use mathlib.Core.Path.{_≡_};
 ghost use Prim.Native.Nat.{_<_, _^_};
-ghost use Rattle.images.specs.Images.{tells, tellsByte};
-ghost use Rattle.readings.specs.Promises.{tellsBytes};
-ghost use Rattle.plans.specs.Plans.{tellsAsked};
-ghost use Rattle.records.specs.Records.{tellsUsed};
-ghost use Rattle.scripts.specs.Scripts as scripts;
-ghost use Rattle.translation.specs.Text as translation;
-ghost use Rattle.clib.specs.Packed.{packed, packs, packsPair};
+ghost use Rattle.refusal.specs.Answers.{tellsCount};
+ghost use Rattle.clib.specs.Packed.{packed, packsOutcome, packsCount, packsByte, packsAsked, packsBytes, packsSteps, packsUsed};
 
 // A value of at most 56 bits has room above the refusal number.
 pub(crate) fn packed(refusal: u8, value: u64) -> u64
@@ -24,8 +18,8 @@ pub(crate) fn packed(refusal: u8, value: u64) -> u64
     refusal as u64 + 256 * value
 }
 
-pub fn of_outcome(outcome: Outcome) -> u64
-    ensures { λ r. ⌜ r ≡ packed (tells outcome) 0 ⌝ }
+pub(crate) fn of_outcome(outcome: Outcome) -> u64
+    ensures { λ r. ⌜ r ≡ packsOutcome outcome ⌝ }
 {
     match outcome {
         Outcome::Accepted => packed(0, 0),
@@ -33,8 +27,8 @@ pub fn of_outcome(outcome: Outcome) -> u64
     }
 }
 
-pub fn of_byte(read: ByteRead) -> u64
-    ensures { λ r. ⌜ r ≡ packs (tellsByte read) ⌝ }
+pub(crate) fn of_byte(read: ByteRead) -> u64
+    ensures { λ r. ⌜ r ≡ packsByte read ⌝ }
 {
     match read {
         ByteRead::Byte(byte) => packed(0, byte as u64),
@@ -43,8 +37,8 @@ pub fn of_byte(read: ByteRead) -> u64
 }
 
 // "high byte first"
-pub fn of_bytes(bytes: Bytes) -> u64
-    ensures { λ r. ⌜ r ≡ packsPair (tellsBytes bytes) ⌝ }
+pub(crate) fn of_bytes(bytes: Bytes) -> u64
+    ensures { λ r. ⌜ r ≡ packsBytes bytes ⌝ }
 {
     match bytes {
         Bytes::Pair(high, low) => packed(0, high as u64 * 256 + low as u64),
@@ -52,8 +46,8 @@ pub fn of_bytes(bytes: Bytes) -> u64
     }
 }
 
-pub fn of_asked(asked: Asked) -> u64
-    ensures { λ r. ⌜ r ≡ packs (tellsAsked asked) ⌝ }
+pub(crate) fn of_asked(asked: Asked) -> u64
+    ensures { λ r. ⌜ r ≡ packsAsked asked ⌝ }
 {
     match asked {
         Asked::Speed(speed) => packed(0, speed as u64),
@@ -61,32 +55,33 @@ pub fn of_asked(asked: Asked) -> u64
     }
 }
 
-pub(crate) fn of_used(used: Used) -> u64
-    requires { ⌜ tellsUsed used .1 < 2 ^ 56 ⌝ }
-    ensures { λ r. ⌜ r ≡ packs (tellsUsed used) ⌝ }
+// A count of steps crosses as its 16-bit two's complement word.
+pub(crate) fn of_steps(steps: Steps) -> u64
+    ensures { λ r. ⌜ r ≡ packsSteps steps ⌝ }
+{
+    match steps {
+        Steps::Counted(number) => packed(0, readings::as_word(number) as u64),
+        Steps::Refused(refusal) => packed(refusal::number(refusal), 0),
+    }
+}
+
+pub(crate) fn of_count(count: Count) -> u64
+    requires { ⌜ tellsCount count .1 < 2 ^ 56 ⌝ }
+    ensures { λ r. ⌜ r ≡ packsCount count ⌝ }
+{
+    match count {
+        Count::Of(n) => packed(0, n as u64),
+        Count::Refused(refusal) => packed(refusal::number(refusal), 0),
+    }
+}
+
+// The bytes used, and the chip and the table above them.
+pub(crate) fn of_used(used: Count, chip: u8, table: u8) -> u64
+    requires { ⌜ tellsCount used .1 < 2 ^ 16 ⌝ }
+    ensures { λ r. ⌜ r ≡ packsUsed used chip table ⌝ }
 {
     match used {
-        Used::Bytes(length) => packed(0, length as u64),
-        Used::Refused(refusal) => packed(refusal::number(refusal), 0),
-    }
-}
-
-pub(crate) fn of_made(made: Made) -> u64
-    requires { ⌜ scripts.tells made .1 < 2 ^ 56 ⌝ }
-    ensures { λ r. ⌜ r ≡ packs (scripts.tells made) ⌝ }
-{
-    match made {
-        Made::Writes(writes) => packed(0, writes as u64),
-        Made::Refused(refusal) => packed(refusal::number(refusal), 0),
-    }
-}
-
-pub(crate) fn of_text(text: Text) -> u64
-    requires { ⌜ translation.tells text .1 < 2 ^ 56 ⌝ }
-    ensures { λ r. ⌜ r ≡ packs (translation.tells text) ⌝ }
-{
-    match text {
-        Text::Bytes(length) => packed(0, length as u64),
-        Text::Refused(refusal) => packed(refusal::number(refusal), 0),
+        Count::Of(n) => packed(0, n as u64 + 256 * chip as u64 + 65536 * table as u64),
+        Count::Refused(refusal) => packed(refusal::number(refusal), 0),
     }
 }

@@ -9,7 +9,7 @@ pub extern "C" fn yk_script(chip: u8, table: u8, body: &[u8], out: &mut [u8]) ->
 {
     let plan = bodies::plan_from(chip, table, body);
     let made = scripts::script(plan, out);
-    packing::of_made(made)
+    packing::of_count(made)
 }
 
 #[no_mangle]
@@ -18,5 +18,5 @@ pub extern "C" fn yk_play(chip: u8, table: u8, body: &[u8], image: &mut [u8], co
 {
     let plan = bodies::plan_from(chip, table, body);
     let made = scripts::play(plan, image, count);
-    packing::of_made(made)
+    packing::of_count(made)
 }

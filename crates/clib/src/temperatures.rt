@@ -1,6 +1,5 @@
 // Temperatures of a width, and the NCT80's voltages.
 use crate::packing;
-use crate::words;
 ghost use Rattle.clib.specs.Packed.{YkSteps, YkBytes, YkMicrovolts};
 
 #[no_mangle]
@@ -8,7 +7,7 @@ pub extern "C" fn yk_steps(width: u8, high: u8, low: u8) -> u64
     ensures { λ r. ⌜ YkSteps width high low r ⌝ }
 {
     let steps = readings::steps_of(width, high, low);
-    words::of_steps(steps)
+    packing::of_steps(steps)
 }
 
 #[no_mangle]

@@ -3,7 +3,7 @@
 use crate::numbers;
 use crate::print;
 use images::ByteRead;
-use images::Outcome;
+use refusal::Outcome;
 
 const FILL: u8 = 0x5A;
 

@@ -2,12 +2,12 @@
 use crate::print;
 use crate::samples;
 use plans::Plan;
-use records::Used;
+use refusal::Count;
 
-fn used(answer: Used) {
+fn used(answer: Count) {
     match answer {
-        Used::Refused(r) => print::refused(r),
-        Used::Bytes(n) => {
+        Count::Refused(r) => print::refused(r),
+        Count::Of(n) => {
             print::text(b" used ");
             print::decimal(n as u64);
         }

@@ -4,12 +4,12 @@ use crate::image_calls;
 use crate::print;
 use crate::samples;
 use plans::Plan;
-use scripts::Made;
+use refusal::Count;
 
-pub fn made(answer: Made) {
+pub fn made(answer: Count) {
     match answer {
-        Made::Refused(r) => print::refused(r),
-        Made::Writes(n) => {
+        Count::Refused(r) => print::refused(r),
+        Count::Of(n) => {
             print::text(b" writes ");
             print::decimal(n as u64);
         }

@@ -1,20 +1,14 @@
 -- No second answer of a call on an image meets its contract, and no other bytes: what an answer tells is told by no other answer.
 -- Assumes nothing.
 use Prim.Native.Nat.{ℕ}
-use mathlib.Core.Path.{_≡_, refl, sym, ap, _∙_}
+use mathlib.Core.Path.{_≡_, sym, ap, _∙_}
 use mathlib.Core.List.{List}
 use Rattle.refusal.proofs.Numbers.{numberOf-injective, not-accepted}
-use Rattle.images.specs.declared.Outcome.{Outcome}
-use Rattle.images.specs.declared.Outcome.the-variants as outcome
+use Rattle.refusal.proofs.Answers.{tells-injective}
+use Rattle.refusal.specs.declared.Outcome.{Outcome}
 use Rattle.images.specs.declared.ByteRead.{ByteRead}
 use Rattle.images.specs.declared.ByteRead.the-variants as byteRead
-use Rattle.images.specs.Images.{tells, tellsByte, Writes, Reads, Resets, Confirms}
-
-pub tells-injective : (r s : Outcome) → tells r ≡ tells s → r ≡ s
-tells-injective outcome.Accepted outcome.Accepted e = refl
-tells-injective outcome.Accepted (outcome.Refused q) e = absurd (not-accepted q e)
-tells-injective (outcome.Refused p) outcome.Accepted e = absurd (not-accepted p (sym e))
-tells-injective (outcome.Refused p) (outcome.Refused q) e = ap outcome.Refused (numberOf-injective p q e)
+use Rattle.images.specs.Images.{tellsByte, Writes, Reads, Resets, Confirms}
 
 pub tellsByte-injective : (r s : ByteRead) → tellsByte r ≡ tellsByte s → r ≡ s
 tellsByte-injective (byteRead.Byte b) (byteRead.Byte d) e = ap byteRead.Byte (ap (λ (t : ℕ × ℕ). t .1) e)

@@ -6,20 +6,15 @@ use mathlib.Core.Bool.{Bool, false, not}
 use mathlib.Core.List.{List, [], _∷_}
 use lib.Dec.{eqb}
 use lib.ListN.{length, getD}
+use Rattle.refusal.specs.declared.Outcome.{Outcome}
 use Rattle.refusal.specs.Refusals.{numberOf}
+use Rattle.refusal.specs.Answers.{tells}
 use Rattle.refusal.specs.Checks.{Check, first, told, left}
 use Rattle.cards.specs.Cards.{chipOf, whenKnown, unknown, powerOn}
-use Rattle.images.specs.declared.Outcome.{Outcome}
-use Rattle.images.specs.declared.Outcome.the-variants as outcome
 use Rattle.images.specs.declared.ByteRead.{ByteRead}
 use Rattle.images.specs.declared.ByteRead.the-variants as byteRead
 use Rattle.images.specs.Bytes.{written}
 use Rattle.images.specs.Identity.{confirmed}
-
--- the paper's number of an answer that has no other part
-abbrev pub tells : Outcome → ℕ
-tells outcome.Accepted = 0
-tells (outcome.Refused r) = numberOf r
 
 -- the paper's number and the byte of an answer
 abbrev pub tellsByte : ByteRead → ℕ × ℕ

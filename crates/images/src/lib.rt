@@ -4,16 +4,12 @@ mod identities;
 
 use cards::Chip;
 use cards::Named;
+use refusal::Outcome;
 use refusal::Refusal;
 ghost use mathlib.Core.Path.{_≡_};
 ghost use lib.ListN.{length};
 ghost use Rattle.cards.specs.Cards.{powerOn};
 ghost use Rattle.images.specs.Images.{Writes, Reads, Resets, Confirms};
-
-pub enum Outcome {
-    Accepted,
-    Refused(Refusal),
-}
 
 pub enum ByteRead {
     Byte(u8),

@@ -2,22 +2,16 @@
 -- Assumes nothing.
 use Prim.Native.Nat.{ℕ}
 use native.Mathlib.Omega.{arith}
-use mathlib.Core.Path.{_≡_, refl, sym, ap, _∙_}
+use mathlib.Core.Path.{_≡_, sym, ap, _∙_}
 use mathlib.Core.List.{List}
 use Rattle.refusal.proofs.Numbers.{numberOf-injective, numberOf-positive}
+use Rattle.refusal.proofs.Answers.{tells-injective}
+use Rattle.refusal.specs.declared.Outcome.{Outcome}
 use Rattle.cards.specs.declared.Chip.{Chip}
 use Rattle.plans.specs.declared.Plan.{Plan}
-use Rattle.plans.specs.declared.Verdict.{Verdict}
-use Rattle.plans.specs.declared.Verdict.the-variants as verdict
 use Rattle.plans.specs.declared.Asked.{Asked}
 use Rattle.plans.specs.declared.Asked.the-variants as asked
-use Rattle.plans.specs.Plans.{tells, tellsAsked, Judges, AsksPlan, AsksImage, Decodes}
-
-pub tells-injective : (r s : Verdict) → tells r ≡ tells s → r ≡ s
-tells-injective verdict.Accepted verdict.Accepted e = refl
-tells-injective verdict.Accepted (verdict.Refused q) e = absurd (omega (arith, numberOf-positive q))
-tells-injective (verdict.Refused p) verdict.Accepted e = absurd (omega (arith, numberOf-positive p))
-tells-injective (verdict.Refused p) (verdict.Refused q) e = ap verdict.Refused (numberOf-injective p q e)
+use Rattle.plans.specs.Plans.{tellsAsked, Judges, AsksPlan, AsksImage, Decodes}
 
 pub tellsAsked-injective : (r s : Asked) → tellsAsked r ≡ tellsAsked s → r ≡ s
 tellsAsked-injective (asked.Speed a) (asked.Speed b) e = ap asked.Speed (ap (λ (t : ℕ × ℕ). t .1) e)
@@ -25,7 +19,7 @@ tellsAsked-injective (asked.Speed a) (asked.Refused q) e = absurd (omega (arith,
 tellsAsked-injective (asked.Refused p) (asked.Speed b) e = absurd (omega (arith, numberOf-positive p, ap (λ (t : ℕ × ℕ). t .0) e))
 tellsAsked-injective (asked.Refused p) (asked.Refused q) e = ap asked.Refused (numberOf-injective p q (ap (λ (t : ℕ × ℕ). t .0) e))
 
-pub judges-unique : {plan : Plan} {r s : Verdict} → Judges plan r → Judges plan s → r ≡ s
+pub judges-unique : {plan : Plan} {r s : Outcome} → Judges plan r → Judges plan s → r ≡ s
 judges-unique {r = r} {s = s} p q = tells-injective r s (p .answer ∙ sym (q .answer))
 
 pub asksPlan-unique : {plan : Plan} {t : ℕ} {r s : Asked} → AsksPlan plan t r → AsksPlan plan t s → r ≡ s

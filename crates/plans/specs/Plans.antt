@@ -5,7 +5,9 @@ use mathlib.Core.Path.{_≡_}
 use mathlib.Core.Bool.{Bool, true, not, _&&_}
 use mathlib.Core.List.{List, [], _∷_, _++_, map}
 use lib.ListN.{getD, take, replicate}
+use Rattle.refusal.specs.declared.Outcome.{Outcome}
 use Rattle.refusal.specs.Refusals.{numberOf}
+use Rattle.refusal.specs.Answers.{tells}
 use Rattle.refusal.specs.Checks.{Check, first, told}
 use Rattle.cards.specs.declared.Chip.{Chip}
 use Rattle.cards.specs.declared.Chip.the-variants.{Nct7802y, F75373s, Nct80}
@@ -13,8 +15,6 @@ use Rattle.cards.specs.Rows.{Table, from}
 use Rattle.cards.specs.Cards.{chipOf, whenKnown, unknown, noTable, tableOf}
 use Rattle.images.specs.Images.{notAnImage}
 use Rattle.plans.specs.declared.Plan.{Plan}
-use Rattle.plans.specs.declared.Verdict.{Verdict}
-use Rattle.plans.specs.declared.Verdict.the-variants as verdict
 use Rattle.plans.specs.declared.Asked.{Asked}
 use Rattle.plans.specs.declared.Asked.the-variants as asked
 use Rattle.plans.specs.Curves.{degree, points, slope, steps, halves, words}
@@ -117,18 +117,13 @@ planChecks plan =
     ∷ (speedsOut plan, 7)
     ∷ []
 
--- the paper's number of a verdict
-abbrev pub tells : Verdict → ℕ
-tells verdict.Accepted = 0
-tells (verdict.Refused r) = numberOf r
-
 -- the paper's number and the speed of an answer
 abbrev pub tellsAsked : Asked → ℕ × ℕ
 tellsAsked (asked.Speed s) = (0, s)
 tellsAsked (asked.Refused r) = (numberOf r, 0)
 
 -- what `plans::judge` promises
-pub record Judges (plan : Plan) (r : Verdict) : Type 0 where
+pub record Judges (plan : Plan) (r : Outcome) : Type 0 where
   pub answer : tells r ≡ first (planChecks plan)
 
 -- what `plans::asked_of_plan` promises: "of a plan 3 and 4, never 6 or 7"

@@ -10,7 +10,7 @@ ghost use Rattle.cards.specs.declared.Chip.the-variants.{Nct80};
 ghost use Rattle.plans.specs.Plans.{bytesAt, decoded};
 
 // The byte at a place, and 0 behind the end.
-pub fn byte_at(body: &[u8], at: usize) -> u8
+pub(crate) fn byte_at(body: &[u8], at: usize) -> u8
     ensures { λ r. ⌜ r ≡ getD (now (body .entry)) at 0 ⌝ }
 {
     if at < body.len() { body[at] } else { 0 }
@@ -39,7 +39,7 @@ fn word_at(body: &[u8], at: usize) -> u16
 }
 
 // C1 to C5 stand behind B1 to B4.
-pub fn counts_at_4(body: &[u8]) -> [u16; 5]
+pub(crate) fn counts_at_4(body: &[u8]) -> [u16; 5]
     ensures { λ r. ⌜ r ≡ words (bytesAt (now (body .entry)) (from 4 10)) ⌝ }
 {
     [
@@ -52,7 +52,7 @@ pub fn counts_at_4(body: &[u8]) -> [u16; 5]
 }
 
 // Chip 3 has no fan table, so its plans have no values.
-pub fn no_curve(table: u8) -> Plan
+pub(crate) fn no_curve(table: u8) -> Plan
     ensures { λ r. ⌜ r ≡ decoded Nct80 table [] ⌝ }
 {
     Plan {

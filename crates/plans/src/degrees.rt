@@ -3,13 +3,13 @@ ghost use mathlib.Core.Path.{_≡_};
 ghost use mathlib.Core.List.{map};
 ghost use Rattle.plans.specs.Curves.{degree};
 
-pub fn degree_of(byte: u8) -> u8
+pub(crate) fn degree_of(byte: u8) -> u8
     ensures { λ r. ⌜ r ≡ degree byte ⌝ }
 {
     if byte < 128 { byte + 128 } else { byte - 128 }
 }
 
-pub fn degrees_of(temperatures: [u8; 4]) -> [u8; 4]
+pub(crate) fn degrees_of(temperatures: [u8; 4]) -> [u8; 4]
     ensures { λ r. ⌜ r ≡ map degree temperatures ⌝ }
 {
     [

@@ -8,13 +8,15 @@ mod steps;
 use cards::Chip;
 use cards::Named;
 use cards::Place;
+use refusal::Outcome;
 use refusal::Refusal;
 ghost use mathlib.Core.Path.{_≡_};
 ghost use mathlib.Core.Bool.{not};
 ghost use mathlib.Core.List.{[], _∷_};
 ghost use Rattle.refusal.specs.Checks.{first};
+ghost use Rattle.refusal.specs.Answers.{tells};
 ghost use Rattle.cards.specs.Cards.{hasTable};
-ghost use Rattle.plans.specs.Plans.{planned, asks, temperaturesInOrder, speedsInOrder, tells, Judges, AsksPlan, AsksImage, Decodes};
+ghost use Rattle.plans.specs.Plans.{planned, asks, temperaturesInOrder, speedsInOrder, Judges, AsksPlan, AsksImage, Decodes};
 
 // A plan of either chip. Temperatures are bytes as their registers hold them: two's complement for chip 1, unsigned for chip 2.
 pub struct Plan {
@@ -29,11 +31,6 @@ pub struct Plan {
     pub counts: [u16; 5],
 }
 
-pub enum Verdict {
-    Accepted,
-    Refused(Refusal),
-}
-
 // The duty of chip 1, or the count of chip 2.
 pub enum Asked {
     Speed(u16),
@@ -41,27 +38,27 @@ pub enum Asked {
 }
 
 // What is left to check of a plan once its chip is known.
-fn judge_known(chip: Chip, plan: Plan) -> Verdict
+fn judge_known(chip: Chip, plan: Plan) -> Outcome
     ensures { λ r. ⌜ tells r ≡ first ((not (hasTable chip (plan .table)), 4) ∷ (not (temperaturesInOrder chip plan), 6) ∷ (not (speedsInOrder chip plan), 7) ∷ []) ⌝ }
 {
     if let Place::Nowhere = cards::table_at(chip, plan.table) {
-        return Verdict::Refused(Refusal::NoSuchTable);
+        return Outcome::Refused(Refusal::NoSuchTable);
     }
     if !orders::temperatures_in_order(chip, plan) {
-        return Verdict::Refused(Refusal::TemperaturesOutOfOrder);
+        return Outcome::Refused(Refusal::TemperaturesOutOfOrder);
     }
     if !orders::speeds_in_order(chip, plan) {
-        return Verdict::Refused(Refusal::SpeedsOutOfOrder);
+        return Outcome::Refused(Refusal::SpeedsOutOfOrder);
     }
-    Verdict::Accepted
+    Outcome::Accepted
 }
 
 // Whether a plan is accepted, and else the first check that it fails.
-pub fn judge(plan: Plan) -> Verdict
+pub fn judge(plan: Plan) -> Outcome
     ensures { λ r. ⌜ Judges plan r ⌝ }
 {
     match cards::chip_of(plan.chip) {
-        Named::Unknown => Verdict::Refused(Refusal::NoSuchChip),
+        Named::Unknown => Outcome::Refused(Refusal::NoSuchChip),
         Named::Known(chip) => judge_known(chip, plan),
     }
 }

@@ -69,7 +69,7 @@ fn rising_to_critical(temperatures: [u8; 4], critical: u8) -> bool
     degrees[3] <= degree_of(critical)
 }
 
-pub fn temperatures_in_order(chip: Chip, plan: Plan) -> bool
+pub(crate) fn temperatures_in_order(chip: Chip, plan: Plan) -> bool
     ensures { λ r. ⌜ r ≡ temperaturesInOrder chip plan ⌝ }
 {
     match chip {
@@ -85,7 +85,7 @@ pub fn temperatures_in_order(chip: Chip, plan: Plan) -> bool
     }
 }
 
-pub fn speeds_in_order(chip: Chip, plan: Plan) -> bool
+pub(crate) fn speeds_in_order(chip: Chip, plan: Plan) -> bool
     ensures { λ r. ⌜ r ≡ speedsInOrder chip plan ⌝ }
 {
     match chip {

@@ -32,7 +32,7 @@ fn duty_below(degrees: [u8; 4], duties: [u8; 4], at: u8) -> u8
     duties[3]
 }
 
-pub fn asked_duty(temperatures: [u8; 4], critical: u8, duties: [u8; 4], t: u8) -> u8
+pub(crate) fn asked_duty(temperatures: [u8; 4], critical: u8, duties: [u8; 4], t: u8) -> u8
     ensures { λ r. ⌜ r ≡ slope 255 (points (map degree temperatures) duties) (degree critical) (degree t) ⌝ }
 {
     let at = degree_of(t);

@@ -8,7 +8,7 @@ use Rattle.readings.specs.declared.Steps.{Steps}
 use Rattle.readings.specs.declared.Steps.the-variants as steps
 use Rattle.readings.specs.declared.Bytes.{Bytes}
 use Rattle.readings.specs.declared.Bytes.the-variants as bytes
-use Rattle.readings.specs.Promises.{tellsSteps, tellsBytes, Counts, Writes, Measures}
+use Rattle.readings.specs.Promises.{tellsSteps, tellsBytes, Encodes, Counts, Writes, Measures}
 
 pub tellsSteps-injective : (a b : Steps) → tellsSteps a ≡ tellsSteps b → a ≡ b
 tellsSteps-injective (steps.Counted m) (steps.Counted n) e = ap (λ (t : ℕ × ℤ). steps.Counted (t .1)) e
@@ -23,6 +23,9 @@ tellsBytes-injective (bytes.Pair h l) (bytes.Refused s) e = absurd (not-accepted
 tellsBytes-injective (bytes.Refused r) (bytes.Pair i m) e = absurd (not-accepted r (sym (ap (λ (t : ℕ × (ℕ × ℕ)). t .0) e)))
 tellsBytes-injective (bytes.Refused r) (bytes.Refused s) e =
     ap bytes.Refused (numberOf-injective r s (ap (λ (t : ℕ × (ℕ × ℕ)). t .0) e))
+
+pub encodes-unique : {number : ℤ} {m n : ℕ} → Encodes number m → Encodes number n → m ≡ n
+encodes-unique p q = p .answer ∙ sym (q .answer)
 
 pub counts-unique : {width high low : ℕ} {r s : Steps} → Counts width high low r → Counts width high low s → r ≡ s
 counts-unique {r} {s} p q = tellsSteps-injective r s (p .answer ∙ sym (q .answer))

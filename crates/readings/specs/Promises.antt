@@ -11,7 +11,7 @@ use Rattle.readings.specs.declared.Steps.{Steps}
 use Rattle.readings.specs.declared.Steps.the-variants as steps
 use Rattle.readings.specs.declared.Bytes.{Bytes}
 use Rattle.readings.specs.declared.Bytes.the-variants as bytes
-use Rattle.readings.specs.Readings.{isWidth, fits, stepsAt, bytesAt, voltage}
+use Rattle.readings.specs.Readings.{isWidth, asWord, fits, stepsAt, bytesAt, voltage}
 
 -- "temperatures 11, and towards bytes then 12"
 abbrev pub stepsChecks : ℕ → List Check
@@ -28,6 +28,10 @@ tellsSteps (steps.Refused r) = (numberOf r, pos 0)
 abbrev pub tellsBytes : Bytes → ℕ × (ℕ × ℕ)
 tellsBytes (bytes.Pair high low) = (0, (high, low))
 tellsBytes (bytes.Refused r) = (numberOf r, (0, 0))
+
+-- what `readings::as_word` promises
+pub record Encodes (number : ℤ) (word : ℕ) : Type 0 where
+  pub answer : word ≡ asWord number
 
 -- what `readings::steps_of` promises
 pub record Counts (width high low : ℕ) (r : Steps) : Type 0 where

@@ -2,8 +2,8 @@
 use refusal::Refusal;
 ghost use mathlib.Core.Path.{_≡_};
 ghost use mathlib.Core.Bool.{true};
-ghost use Rattle.readings.specs.Readings.{isWidth, asNumber, asWord, fits};
-ghost use Rattle.readings.specs.Promises.{Counts, Writes, Measures};
+ghost use Rattle.readings.specs.Readings.{isWidth, asNumber, fits};
+ghost use Rattle.readings.specs.Promises.{Encodes, Counts, Writes, Measures};
 
 // A temperature as a signed count of steps, or why there is none.
 pub enum Steps {
@@ -42,8 +42,8 @@ fn as_number(word: u16) -> i16
 }
 
 // The word of a 16-bit two's complement number.
-fn as_word(number: i16) -> u16
-    ensures { λ r. ⌜ r ≡ asWord number ⌝ }
+pub fn as_word(number: i16) -> u16
+    ensures { λ r. ⌜ Encodes number r ⌝ }
 {
     if number < 0 {
         (number - (-0x8000)) as u16 + 0x8000

@@ -12,16 +12,17 @@ use Rattle.refusal.specs.Refusals.{numberOf}
 use Rattle.refusal.specs.Checks.{first}
 use Rattle.refusal.proofs.Numbers.{numberOf-positive}
 use Rattle.refusal.proofs.Passed.{first-passed, first-refused, when-refused, told-refused}
+use Rattle.refusal.specs.declared.Count.{Count}
+use Rattle.refusal.specs.declared.Count.the-variants as counted
+use Rattle.refusal.specs.Answers.{tellsCount}
 use Rattle.cards.specs.declared.Chip.{Chip}
 use Rattle.cards.specs.declared.Named.the-variants.{Known}
 use Rattle.cards.specs.Cards.{chipOf, hasTable}
 use Rattle.plans.specs.declared.Plan.{Plan}
 use Rattle.plans.specs.Plans.{decoded, planChecks}
 use Rattle.plans.proofs.Registers.{to-the-end}
-use Rattle.records.specs.declared.Used.{Used}
-use Rattle.records.specs.declared.Used.the-variants as used
 use Rattle.records.specs.declared.Found.{Found}
-use Rattle.records.specs.Records.{bodyLength, recordOf, encoded, chipIn, tableIn, noPlan, planIn, recordChecks, writeChecks, roomChecks, bodyChecks, tellsUsed, Refuses, ReadsBody, Reads, Puts, Writes}
+use Rattle.records.specs.Records.{bodyLength, recordOf, encoded, chipIn, tableIn, noPlan, planIn, recordChecks, writeChecks, roomChecks, bodyChecks, Refuses, ReadsBody, Reads, Puts, Writes}
 use Rattle.records.proofs.Chips.{decoded-chip, decoded-table}
 
 -- a refused record
@@ -29,7 +30,7 @@ pub body-refused : (chip : Chip) (table : ℕ) (rest : List ℕ) {refusal : Refu
     → numberOf refusal ≡ first (bodyChecks chip table rest) → ReadsBody chip table rest r
 body-refused chip table rest {refusal} R e =
     record {
-      answer = ap tellsUsed (R .answer) ∙ told-refused refusal (bodyChecks chip table rest) _ e;
+      answer = ap tellsCount (R .answer) ∙ told-refused refusal (bodyChecks chip table rest) _ e;
       plan = R .plan ∙ when-refused refusal (decoded chip table rest) noPlan e;
     }
 
@@ -37,7 +38,7 @@ pub record-refused : (bytes : List ℕ) {refusal : Refusal} {r : Found} → Refu
     → numberOf refusal ≡ first (recordChecks bytes) → Reads bytes r
 record-refused bytes {refusal} R e =
     record {
-      answer = ap tellsUsed (R .answer) ∙ told-refused refusal (recordChecks bytes) _ e;
+      answer = ap tellsCount (R .answer) ∙ told-refused refusal (recordChecks bytes) _ e;
       plan = R .plan ∙ when-refused refusal (planIn bytes) noPlan e;
     }
 
@@ -59,7 +60,7 @@ header-passed bytes chip r long m n e B =
 
 -- a refused write alters no byte
 pub write-refused : (plan : Plan) (old : List ℕ) (refusal : Refusal) → numberOf refusal ≡ first (planChecks plan)
-    → Writes plan old (used.Refused refusal) old
+    → Writes plan old (counted.Refused refusal) old
 write-refused plan old refusal e =
     let f = e ∙ sym (first-refused (planChecks plan) (roomChecks (encoded plan) old) (rw (sym e) (numberOf-positive refusal))) in
     record {
@@ -68,7 +69,7 @@ write-refused plan old refusal e =
     }
 
 -- an accepted plan is refused only for want of room
-pub write-accepted : (chip : Chip) (plan : Plan) (old : List ℕ) (r : Used) (new : List ℕ) → chipOf (plan .chip) ≡ Known chip
+pub write-accepted : (chip : Chip) (plan : Plan) (old : List ℕ) (r : Count) (new : List ℕ) → chipOf (plan .chip) ≡ Known chip
     → first (planChecks plan) ≡ 0 → Puts (recordOf chip plan) old r new → Writes plan old r new
 write-accepted chip plan old r new e h P =
     let whole : encoded plan ≡ recordOf chip plan = rw e in

@@ -11,6 +11,10 @@ use lib.ListN.{length, getD, take, drop, length-append, length-drop}
 use lib.Seq.{getD-drop, length-take-le}
 use Rattle.refusal.specs.Checks.{Check, first, told}
 use Rattle.refusal.proofs.Passed.{passed, first-passed, first-front, when-passed, told-passed}
+use Rattle.refusal.specs.declared.Count.{Count}
+use Rattle.refusal.specs.declared.Count.the-variants as counted
+use Rattle.refusal.specs.Answers.{tellsCount}
+use Rattle.refusal.proofs.Answers.{tellsCount-injective}
 use Rattle.cards.specs.declared.Chip.{Chip}
 use Rattle.cards.specs.declared.Named.the-variants.{Known}
 use Rattle.cards.specs.Cards.{chipOf, whenKnown, unknown, noTable, hasTable}
@@ -18,14 +22,11 @@ use Rattle.cards.proofs.Numbers.{chip-number, chip-known}
 use Rattle.plans.specs.declared.Plan.{Plan}
 use Rattle.plans.specs.Plans.{planned, decoded, temperaturesOut, speedsOut, planChecks}
 use Rattle.plans.proofs.Laws.{accepted, accepted-known}
-use Rattle.records.specs.declared.Used.{Used}
-use Rattle.records.specs.declared.Used.the-variants as used
 use Rattle.records.specs.declared.Found.{Found}
-use Rattle.records.specs.Records.{body, bodyLength, recordLength, recordOf, encoded, chipIn, tableIn, bodyIn, noPlan, planIn, headerCutShort, wrongMark, bodyCutShort, recordChecks, roomChecks, writeChecks, bodyChecks, tellsUsed, ownOf, own, Sized, Reads, Writes}
+use Rattle.records.specs.Records.{body, bodyLength, recordLength, recordOf, encoded, chipIn, tableIn, bodyIn, noPlan, planIn, headerCutShort, wrongMark, bodyCutShort, recordChecks, roomChecks, writeChecks, bodyChecks, ownOf, own, Sized, Reads, Writes}
 use Rattle.records.proofs.Chips.{decoded-chip, decoded-table}
 use Rattle.records.proofs.Answers.{body-judged}
 use Rattle.records.proofs.Encoding.{body-of-plan, decode-encode, own-judged, encode-decode}
-use Rattle.records.proofs.Unique.{tellsUsed-injective}
 
 -- a record that is accepted
 pub record Whole (bytes : List ℕ) (chip : Chip) : Type 0 where
@@ -77,10 +78,10 @@ whole-record bytes h =
     }
 
 -- what an answer with bytes says of the call
-told-bytes : (checks : List Check) (value n : ℕ) (r : Used) → r ≡ used.Bytes n → tellsUsed r ≡ told checks value
+told-bytes : (checks : List Check) (value n : ℕ) (r : Count) → r ≡ counted.Of n → tellsCount r ≡ told checks value
     → (first checks ≡ 0) × (n ≡ value)
 told-bytes checks value n r e t =
-    let both : (0, n) ≡ told checks value = ap tellsUsed (sym e) ∙ t in
+    let both : (0, n) ≡ told checks value = ap tellsCount (sym e) ∙ t in
     let none : first checks ≡ 0 = sym (ap (λ (p : ℕ × ℕ). p .0) both) in
     (none, ap (λ (p : ℕ × ℕ). p .1) both ∙ sym (when-passed value 0 none))
 
@@ -127,7 +128,7 @@ whole-accepts bytes n plan chip W small length-told plan-told =
       record-of = ap encoded plan-is ∙ whole-encoded bytes chip W small ∙ ap (λ (k : ℕ). take k bytes) (sym length-is);
     }
 
-pub read-accepts : (bytes : List ℕ) (n : ℕ) (q : Found) → ((k : ℕ) → getD bytes k 0 < 256) → Reads bytes q → q .answer ≡ used.Bytes n
+pub read-accepts : (bytes : List ℕ) (n : ℕ) (q : Found) → ((k : ℕ) → getD bytes k 0 < 256) → Reads bytes q → q .answer ≡ counted.Of n
     → Accepts bytes n (q .plan)
 read-accepts bytes n q small R e =
     let t = told-bytes (recordChecks bytes) (whenKnown (chipOf (chipIn bytes)) recordLength 0) n (q .answer) e (R .answer) in
@@ -137,7 +138,7 @@ read-accepts bytes n q small R e =
 -- "a plan has one encoding": bytes that are read as the same plan are the same, as far as they are used
 pub one-encoding : (bytes other : List ℕ) (n m : ℕ) (q s : Found)
     → ((k : ℕ) → getD bytes k 0 < 256) → ((k : ℕ) → getD other k 0 < 256)
-    → Reads bytes q → Reads other s → q .answer ≡ used.Bytes n → s .answer ≡ used.Bytes m → q .plan ≡ s .plan
+    → Reads bytes q → Reads other s → q .answer ≡ counted.Of n → s .answer ≡ counted.Of m → q .plan ≡ s .plan
     → (n ≡ m) × (take n bytes ≡ take m other)
 one-encoding bytes other n m q s small small′ R R′ e e′ same =
     let A = read-accepts bytes n q small R e in
@@ -146,15 +147,15 @@ one-encoding bytes other n m q s small small′ R R′ e e′ same =
     (sym (length-take-le n bytes (A .within)) ∙ ap length fronts ∙ length-take-le m other (B .within), fronts)
 
 -- what was read is written back as exactly the bytes used
-pub read-written : (bytes : List ℕ) (n : ℕ) (q : Found) (old : List ℕ) (r : Used) (new : List ℕ)
-    → ((k : ℕ) → getD bytes k 0 < 256) → Reads bytes q → q .answer ≡ used.Bytes n → Writes (q .plan) old r new → n ≤ length old
-    → (r ≡ used.Bytes n) × (new ≡ take n bytes ++ drop n old)
+pub read-written : (bytes : List ℕ) (n : ℕ) (q : Found) (old : List ℕ) (r : Count) (new : List ℕ)
+    → ((k : ℕ) → getD bytes k 0 < 256) → Reads bytes q → q .answer ≡ counted.Of n → Writes (q .plan) old r new → n ≤ length old
+    → (r ≡ counted.Of n) × (new ≡ take n bytes ++ drop n old)
 read-written bytes n q old r new small R e W room =
     let A = read-accepts bytes n q small R e in
     let size : length (encoded (q .plan)) ≡ n = ap length (A .record-of) ∙ length-take-le n bytes (A .within) in
     let fits : first (roomChecks (encoded (q .plan)) old) ≡ 0 = rw (le-ltb (length old) (length (encoded (q .plan))) (omega arith)) in
     let none = first-passed (planChecks (q .plan)) (roomChecks (encoded (q .plan)) old) refl (A .judged) ∙ fits in (
-      tellsUsed-injective r (used.Bytes n)
+      tellsCount-injective r (counted.Of n)
           (W .answer ∙ sym (told-passed (writeChecks (q .plan) old) (length (encoded (q .plan))) none) ∙ ap (λ (k : ℕ). (0, k)) size),
       W .bytes
           ∙ sym (when-passed (encoded (q .plan) ++ drop (length (encoded (q .plan))) old) old none)
@@ -164,7 +165,7 @@ read-written bytes n q old r new small R e W room =
 -- a plan's record, with whatever bytes stand behind it
 record-read : (chip : Chip) (plan : Plan) (rest : List ℕ) (q : Found) → Sized plan → chipOf (plan .chip) ≡ Known chip
     → first (planChecks plan) ≡ 0 → Reads (recordOf chip plan ++ rest) q
-    → (q .answer ≡ used.Bytes (length (recordOf chip plan))) × (q .plan ≡ ownOf chip plan)
+    → (q .answer ≡ counted.Of (length (recordOf chip plan))) × (q .plan ≡ ownOf chip plan)
 record-read chip plan rest q S e accepts R =
     let bytes = recordOf chip plan ++ rest in
     let behind = body (planned chip plan) ++ rest in
@@ -180,29 +181,29 @@ record-read chip plan rest q S e accepts R =
     ∙ accepts in
     let used-bytes : whenKnown (chipOf (plan .chip)) recordLength 0 ≡ length (recordOf chip plan) = rw e (omega (arith, size)) in
     let plan-in : planIn bytes ≡ ownOf chip plan = rw e back in (
-      tellsUsed-injective (q .answer) (used.Bytes (length (recordOf chip plan)))
+      tellsCount-injective (q .answer) (counted.Of (length (recordOf chip plan)))
           (R .answer ∙ sym (told-passed (recordChecks bytes) (whenKnown (chipOf (plan .chip)) recordLength 0) none) ∙ ap (λ (k : ℕ). (0, k)) used-bytes),
       R .plan ∙ sym (when-passed (planIn bytes) noPlan none) ∙ plan-in,
     )
 
 named-read : (chip : Chip) (plan : Plan) (rest : List ℕ) (q : Found) → Sized plan → chipOf (plan .chip) ≡ Known chip
-    → first (planChecks plan) ≡ 0 → Reads (encoded plan ++ rest) q → (q .answer ≡ used.Bytes (length (encoded plan))) × (q .plan ≡ own plan)
+    → first (planChecks plan) ≡ 0 → Reads (encoded plan ++ rest) q → (q .answer ≡ counted.Of (length (encoded plan))) × (q .plan ≡ own plan)
 named-read chip plan rest q S e accepts = rw e (record-read chip plan rest q S e accepts)
 
 -- what is written is read back: all of it, and the plan with the other chip's values zero
-pub written-read : (plan : Plan) (old : List ℕ) (n : ℕ) (r : Used) (new : List ℕ) (q : Found) → Sized plan
-    → Writes plan old r new → r ≡ used.Bytes n → Reads new q → (q .answer ≡ used.Bytes n) × (q .plan ≡ own plan)
+pub written-read : (plan : Plan) (old : List ℕ) (n : ℕ) (r : Count) (new : List ℕ) (q : Found) → Sized plan
+    → Writes plan old r new → r ≡ counted.Of n → Reads new q → (q .answer ≡ counted.Of n) × (q .plan ≡ own plan)
 written-read plan old n r new q S W e R =
     let t = told-bytes (writeChecks plan old) (length (encoded plan)) n r e (W .answer) in
     let accepts = first-front (planChecks plan) (roomChecks (encoded plan) old) refl (t .0) in
     let known = chip-known (plan .chip) (accepted-known plan accepts) in
     let wrote : new ≡ encoded plan ++ drop (length (encoded plan)) old = W .bytes ∙ sym (when-passed _ old (t .0)) in
     let back = named-read (known .chip) plan (drop (length (encoded plan)) old) q S (known .named) accepts (rw wrote at R) in
-    (back .0 ∙ ap used.Bytes (sym (t .1)), back .1)
+    (back .0 ∙ ap counted.Of (sym (t .1)), back .1)
 
 -- "only such plans come back equal from their record": those whose other chip's values are zero
-pub comes-back : (plan : Plan) (old : List ℕ) (n : ℕ) (r : Used) (new : List ℕ) (q : Found) → Sized plan
-    → Writes plan old r new → r ≡ used.Bytes n → Reads new q
+pub comes-back : (plan : Plan) (old : List ℕ) (n : ℕ) (r : Count) (new : List ℕ) (q : Found) → Sized plan
+    → Writes plan old r new → r ≡ counted.Of n → Reads new q
     → (own plan ≡ plan → q .plan ≡ plan) × (q .plan ≡ plan → own plan ≡ plan)
 comes-back plan old n r new q S W e R =
     let back = written-read plan old n r new q S W e R .1 in

@@ -7,15 +7,15 @@ use mathlib.Core.List.{List, [], _∷_, _++_}
 use lib.Dec.{eqb, ltb}
 use lib.ListN.{length, getD, drop}
 use Rattle.refusal.specs.declared.Refusal.{Refusal}
-use Rattle.refusal.specs.Refusals.{numberOf}
+use Rattle.refusal.specs.declared.Count.{Count}
+use Rattle.refusal.specs.declared.Count.the-variants as counted
+use Rattle.refusal.specs.Answers.{tellsCount}
 use Rattle.refusal.specs.Checks.{Check, first, told, left}
 use Rattle.cards.specs.declared.Chip.{Chip}
 use Rattle.cards.specs.declared.Chip.the-variants.{Nct7802y, F75373s, Nct80}
 use Rattle.cards.specs.Cards.{chipOf, whenKnown, unknown, hasTable, noTable}
 use Rattle.plans.specs.declared.Plan.{Plan}
 use Rattle.plans.specs.Plans.{Curve, planned, zeros, decoded, temperaturesOut, speedsOut, planChecks}
-use Rattle.records.specs.declared.Used.{Used}
-use Rattle.records.specs.declared.Used.the-variants as used
 use Rattle.records.specs.declared.Found.{Found}
 
 -- "a two-byte mark 43h 50h before each plan, chip, table"
@@ -102,19 +102,14 @@ roomChecks result out = (ltb (length out) (length result), 9) ∷ []
 abbrev pub writeChecks : Plan → List ℕ → List Check
 writeChecks plan out = planChecks plan ++ roomChecks (encoded plan) out
 
--- the paper's number and the number of bytes of an answer
-abbrev pub tellsUsed : Used → ℕ × ℕ
-tellsUsed (used.Bytes n) = (0, n)
-tellsUsed (used.Refused r) = (numberOf r, 0)
-
 -- what `records::read` promises: "The reader answers the plan and the bytes used". The bytes are only read, so they are what they were.
 pub record Reads (bytes : List ℕ) (r : Found) : Type 0 where
-  pub answer : tellsUsed (r .answer) ≡ told (recordChecks bytes) (whenKnown (chipOf (chipIn bytes)) recordLength 0)
+  pub answer : tellsCount (r .answer) ≡ told (recordChecks bytes) (whenKnown (chipOf (chipIn bytes)) recordLength 0)
   pub plan : r .plan ≡ cond (eqb (first (recordChecks bytes)) 0) (planIn bytes) noPlan
 
 -- what `records::write` promises: "An output longer than the result keeps its tail", and a refused one holds what it held
-pub record Writes (plan : Plan) (old : List ℕ) (r : Used) (new : List ℕ) : Type 0 where
-  pub answer : tellsUsed r ≡ told (writeChecks plan old) (length (encoded plan))
+pub record Writes (plan : Plan) (old : List ℕ) (r : Count) (new : List ℕ) : Type 0 where
+  pub answer : tellsCount r ≡ told (writeChecks plan old) (length (encoded plan))
   pub bytes : new ≡ left (writeChecks plan old) (encoded plan ++ drop (length (encoded plan)) old) old
 
 -- "those of the other chip are zero in what is read": what comes back of a plan
@@ -163,7 +158,7 @@ pub record Sized (plan : Plan) : Type 0 where
 -- The contracts of the parts.
 -- a refused record
 pub record Refuses (refusal : Refusal) (r : Found) : Type 0 where
-  pub answer : r .answer ≡ used.Refused refusal
+  pub answer : r .answer ≡ counted.Refused refusal
   pub plan : r .plan ≡ noPlan
 
 -- the checks of a record behind those of its header
@@ -177,10 +172,10 @@ bodyChecks chip table rest =
 
 -- a record behind its header
 pub record ReadsBody (chip : Chip) (table : ℕ) (rest : List ℕ) (r : Found) : Type 0 where
-  pub answer : tellsUsed (r .answer) ≡ told (bodyChecks chip table rest) (recordLength chip)
+  pub answer : tellsCount (r .answer) ≡ told (bodyChecks chip table rest) (recordLength chip)
   pub plan : r .plan ≡ cond (eqb (first (bodyChecks chip table rest)) 0) (decoded chip table rest) noPlan
 
 -- a result put to the front of a buffer
-pub record Puts (result old : List ℕ) (r : Used) (new : List ℕ) : Type 0 where
-  pub answer : tellsUsed r ≡ told (roomChecks result old) (length result)
+pub record Puts (result old : List ℕ) (r : Count) (new : List ℕ) : Type 0 where
+  pub answer : tellsCount r ≡ told (roomChecks result old) (length result)
   pub bytes : new ≡ left (roomChecks result old) (result ++ drop (length result) old) old

@@ -6,7 +6,7 @@ ghost use Rattle.cards.specs.declared.Chip.the-variants.{Nct7802y, F75373s};
 ghost use Rattle.plans.specs.Curves.{halves};
 ghost use Rattle.records.specs.Records.{recordOf};
 
-pub fn nct7802y(plan: Plan) -> [u8; 13]
+pub(crate) fn nct7802y(plan: Plan) -> [u8; 13]
     ensures { λ r. ⌜ r ≡ recordOf Nct7802y plan ⌝ }
 {
     let temperatures = plan.temperatures;
@@ -58,7 +58,7 @@ fn halves(counts: [u16; 5]) -> [u8; 10]
     ]
 }
 
-pub fn f75373s(plan: Plan) -> [u8; 18]
+pub(crate) fn f75373s(plan: Plan) -> [u8; 18]
     ensures { λ r. ⌜ r ≡ recordOf F75373s plan ⌝ }
 {
     let bounds = plan.bounds;

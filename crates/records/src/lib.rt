@@ -6,20 +6,15 @@ use cards::Chip;
 use cards::Named;
 use cards::Place;
 use plans::Plan;
-use plans::Verdict;
+use refusal::Count;
+use refusal::Outcome;
 use refusal::Refusal;
 ghost use mathlib.Core.Path.{_≡_};
 ghost use Rattle.records.specs.Records.{bodyLength, recordOf, Reads, ReadsBody, Refuses, Writes, Puts};
 
-// How many bytes a record has.
-pub enum Used {
-    Bytes(usize),
-    Refused(Refusal),
-}
-
 // What is read: the bytes used, and the plan, which is all zeros where the record is refused.
 pub struct Found {
-    pub answer: Used,
+    pub answer: Count,
     pub plan: Plan,
 }
 
@@ -27,7 +22,7 @@ fn refused(refusal: Refusal) -> Found
     ensures { λ r. ⌜ Refuses refusal r ⌝ }
 {
     Found {
-        answer: Used::Refused(refusal),
+        answer: Count::Refused(refusal),
         plan: Plan {
             chip: 0,
             table: 0,
@@ -64,9 +59,9 @@ fn read_known(chip: Chip, table: u8, body: &[u8]) -> Found
     }
     let plan = plans::plan_of_body(chip, table, body);
     match plans::judge(plan) {
-        Verdict::Refused(refusal) => refused(refusal),
-        Verdict::Accepted => Found {
-            answer: Used::Bytes(4 + needed),
+        Outcome::Refused(refusal) => refused(refusal),
+        Outcome::Accepted => Found {
+            answer: Count::Of(4 + needed),
             plan,
         },
     }
@@ -92,7 +87,7 @@ pub fn read(bytes: &[u8]) -> Found
 }
 
 // Writes a chip's record. A chip with no fan table has only the header.
-fn write_known(chip: Chip, plan: Plan, out: &mut [u8]) -> Used
+fn write_known(chip: Chip, plan: Plan, out: &mut [u8]) -> Count
     ensures { λ r. ⌜ Puts (recordOf chip plan) (now (out .entry)) r (now (out .exit)) ⌝ }
 {
     match chip {
@@ -112,14 +107,14 @@ fn write_known(chip: Chip, plan: Plan, out: &mut [u8]) -> Used
 }
 
 // Writes a plan's record to the front of the buffer, and answers its length.
-pub fn write(plan: Plan, out: &mut [u8]) -> Used
+pub fn write(plan: Plan, out: &mut [u8]) -> Count
     ensures { λ r. ⌜ Writes plan (now (out .entry)) r (now (out .exit)) ⌝ }
 {
     match cards::chip_of(plan.chip) {
-        Named::Unknown => Used::Refused(Refusal::NoSuchChip),
+        Named::Unknown => Count::Refused(Refusal::NoSuchChip),
         Named::Known(chip) => {
-            if let Verdict::Refused(refusal) = plans::judge(plan) {
-                return Used::Refused(refusal);
+            if let Outcome::Refused(refusal) = plans::judge(plan) {
+                return Count::Refused(refusal);
             }
             write_known(chip, plan, out)
         }

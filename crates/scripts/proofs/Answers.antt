@@ -16,16 +16,16 @@ use Rattle.refusal.specs.Refusals.{numberOf}
 use Rattle.refusal.specs.Checks.{Check, first}
 use Rattle.refusal.proofs.Numbers.{numberOf-positive}
 use Rattle.refusal.proofs.Passed.{all-passed, first-passed, first-refused, when-passed, when-refused, told-passed, told-refused}
+use Rattle.refusal.specs.declared.Outcome.{Outcome}
+use Rattle.refusal.specs.declared.Outcome.the-variants as outcome
+use Rattle.refusal.specs.declared.Count.the-variants as counted
 use Rattle.cards.specs.declared.Named.{Named}
 use Rattle.cards.specs.declared.Named.the-variants.{Known, Unknown}
 use Rattle.cards.specs.Cards.{chipOf, whenKnown}
-use Rattle.images.specs.declared.Outcome.{Outcome}
-use Rattle.images.specs.declared.Outcome.the-variants as outcome
 use Rattle.images.specs.Images.{notAnImage, unconfirmed, identityChecks, Confirms}
 use Rattle.plans.specs.declared.Plan.{Plan}
 use Rattle.plans.specs.Plans.{planChecks}
 use Rattle.scripts.specs.declared.making.Script.{Script}
-use Rattle.scripts.specs.declared.Made.the-variants as made
 use Rattle.scripts.specs.Scripts.{Pair, flat, played, scriptOf, scriptFor, scriptChecks, playChecks, Scripts, Plays}
 use Rattle.scripts.specs.Making.{writesOf, pairsOf, Describes}
 
@@ -40,19 +40,19 @@ module _ (plan : Plan) (out : List ℕ) where
   abbrev room : List Check
   room = (ltb (length out) (2 * length (scriptFor plan)), 9) ∷ []
 
-  pub script-refused : (r : Refusal) → numberOf r ≡ first (planChecks plan) → Scripts plan out (made.Refused r) out
+  pub script-refused : (r : Refusal) → numberOf r ≡ first (planChecks plan) → Scripts plan out (counted.Refused r) out
   script-refused r e =
       let all = still-refused r (planChecks plan) room e in
       record { answer = told-refused r (scriptChecks plan out) (length pairs) all; bytes = when-refused r _ out all }
 
-  pub script-cramped : first (planChecks plan) ≡ 0 → length out < 2 * length pairs → Scripts plan out (made.Refused OutputTooShort) out
+  pub script-cramped : first (planChecks plan) ≡ 0 → length out < 2 * length pairs → Scripts plan out (counted.Refused OutputTooShort) out
   script-cramped e h =
       let all : 9 ≡ first (scriptChecks plan out) =
       sym (first-passed (planChecks plan) room refl e ∙ rw (lt-ltb (length out) (2 * length pairs) h)) in
       record { answer = told-refused OutputTooShort (scriptChecks plan out) (length pairs) all; bytes = when-refused OutputTooShort _ out all }
 
   pub script-written : {s : Script} {n : ℕ} {new : List ℕ} → first (planChecks plan) ≡ 0 → Describes s pairs → n ≡ writesOf s → 2 * n ≤ length out
-      → new ≡ flat (pairsOf s n) ++ drop (2 * n) out → Scripts plan out (made.Writes n) new
+      → new ≡ flat (pairsOf s n) ++ drop (2 * n) out → Scripts plan out (counted.Of n) new
   script-written {s} {n} {new} e d q h w =
       let n-length : n ≡ length pairs = q ∙ d .writes in
       let whole : pairsOf s n ≡ pairs =
@@ -94,7 +94,7 @@ module _ (plan : Plan) (image : List ℕ) (count : ℕ) where
   abbrev writes : ℕ
   writes = min count (length (scriptFor plan))
 
-  pub play-refused : (r : Refusal) → numberOf r ≡ first (planChecks plan) → Plays plan image count (made.Refused r) image
+  pub play-refused : (r : Refusal) → numberOf r ≡ first (planChecks plan) → Plays plan image count (counted.Refused r) image
   play-refused r e =
       let all = still-refused r (planChecks plan) ownChecks e in
       record { answer = told-refused r (playChecks plan image) writes all; bytes = when-refused r _ image all }
@@ -106,7 +106,7 @@ module _ (plan : Plan) (image : List ℕ) (count : ℕ) where
       ∙ sym (rw (all-passed (planChecks plan) refl e .0))
 
   pub play-unconfirmed : {r : Refusal} → first (planChecks plan) ≡ 0 → Confirms (plan .chip) image (outcome.Refused r)
-      → Plays plan image count (made.Refused r) image
+      → Plays plan image count (counted.Refused r) image
   play-unconfirmed {r} e c =
       let all = c .answer ∙ sym (same-checks e) in
       record { answer = told-refused r (playChecks plan image) writes all; bytes = when-refused r _ image all }
@@ -114,7 +114,7 @@ module _ (plan : Plan) (image : List ℕ) (count : ℕ) where
   pub play-made : {s : Script} {n : ℕ} {new : List ℕ} → first (planChecks plan) ≡ 0 → Confirms (plan .chip) image outcome.Accepted
       → Describes s (scriptFor plan) → n ≡ min count (writesOf s)
       → new ≡ whenKnown (chipOf (plan .chip)) (λ c. played c (pairsOf s n) image) image
-      → Plays plan image count (made.Writes n) new
+      → Plays plan image count (counted.Of n) new
   play-made {s} {n} {new} e c d q w =
       let none : first (playChecks plan image) ≡ 0 = same-checks e ∙ sym (c .answer) in
       let n-writes : n ≡ writes = q ∙ ap (min count) (d .writes) in

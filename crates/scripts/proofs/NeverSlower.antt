@@ -11,6 +11,7 @@ use lib.ListN.{length, getD, take}
 use lib.Seq.{take-all}
 use Rattle.refusal.specs.Checks.{first}
 use Rattle.refusal.proofs.Passed.{all-passed}
+use Rattle.refusal.specs.declared.Count.the-variants as counted
 use Rattle.cards.specs.declared.Chip.{Chip}
 use Rattle.cards.specs.declared.Chip.the-variants.{Nct7802y, F75373s, Nct80}
 use Rattle.cards.specs.declared.Named.{Named}
@@ -23,7 +24,6 @@ use Rattle.plans.specs.declared.Asked.the-variants.{Speed}
 use Rattle.plans.specs.Orders.{fulls}
 use Rattle.plans.specs.Plans.{Curve, planned, held, asks, AsksImage, AsksPlan}
 use Rattle.plans.proofs.Unique.{tellsAsked-injective}
-use Rattle.scripts.specs.declared.Made.the-variants as made
 use Rattle.scripts.specs.Scripts.{Pair, writes, fullOf, script, scriptOf, played, playChecks, Plays}
 use Rattle.scripts.specs.Rules.{Rule}
 use Rattle.scripts.specs.NeverSlower.{Outside, Within, Typed, AsFast, slower, Demand3}
@@ -38,7 +38,7 @@ pub record Accepted (chip : Chip) (plan : Plan) (image : List ℕ) : Type 0 wher
   pub has : So (hasTable chip (plan .table))
   pub long : length image ≡ 256
 
-accepted : {plan : Plan} {old new : List ℕ} {count n : ℕ} (chip : Chip) → chipOf (plan .chip) ≡ Known chip → Plays plan old count (made.Writes n) new
+accepted : {plan : Plan} {old new : List ℕ} {count n : ℕ} (chip : Chip) → chipOf (plan .chip) ≡ Known chip → Plays plan old count (counted.Of n) new
     → Accepted chip plan old
 accepted {plan} {old} chip e p =
     let none : 0 ≡ first (playChecks plan old) = ap (λ (t : ℕ × ℕ). t .0) (p .answer) in
@@ -59,7 +59,7 @@ plan-speed : {plan : Plan} {t : ℕ} {r : Asked} (chip : Chip) → chipOf (plan 
 plan-speed {plan} {t} {r} chip e has p = tellsAsked-injective r (Speed (asks chip (planned chip plan) t)) (p .answer ∙ rw (e, has))
 
 -- the image that a play leaves
-left-by-play : {plan : Plan} {old new : List ℕ} {count n : ℕ} (chip : Chip) → chipOf (plan .chip) ≡ Known chip → Plays plan old count (made.Writes n) new
+left-by-play : {plan : Plan} {old new : List ℕ} {count n : ℕ} (chip : Chip) → chipOf (plan .chip) ≡ Known chip → Plays plan old count (counted.Of n) new
     → new ≡ played chip (take count (scriptOf chip plan)) old
 left-by-play {plan} {old} {new} {count} chip e p =
     let none : 0 ≡ first (playChecks plan old) = ap (λ (t : ℕ × ℕ). t .0) (p .answer) in
@@ -131,7 +131,7 @@ module _ (chip : Chip) (plan : Plan) (typed : Typed plan) (old : List ℕ) (byte
 -- "Take any accepted plan and any starting image whose identity its chip confirms. Play the plan's script and stop after any number of whole
 -- writes, from none to all": a play that is not refused meets demand 3.
 pub demand-3 : {plan : Plan} {old new : List ℕ} {count n : ℕ} (chip : Chip) → chipOf (plan .chip) ≡ Known chip → Typed plan → Within 8 old
-    → Plays plan old count (made.Writes n) new
+    → Plays plan old count (counted.Of n) new
     → Demand3 chip plan old count new
 demand-3 {plan} {old} {new} {count} chip e typed bytes p =
     let ok = accepted chip e p in

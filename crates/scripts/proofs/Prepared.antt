@@ -12,6 +12,9 @@ use lib.ListN.{length, getD, take, drop, length-append, List·getD-append}
 use lib.Seq.{take-suc, getD-append-add}
 use Rattle.refusal.specs.Checks.{first}
 use Rattle.refusal.proofs.Passed.{Passed, all-passed, first-passed, first-refused}
+use Rattle.refusal.specs.declared.Count.{Count}
+use Rattle.refusal.specs.declared.Outcome.{Outcome}
+use Rattle.refusal.specs.Answers.{tells, tellsCount}
 use Rattle.cards.specs.declared.Chip.{Chip}
 use Rattle.cards.specs.declared.Chip.the-variants.{Nct7802y, F75373s, Nct80}
 use Rattle.cards.specs.declared.Named.{Named}
@@ -21,12 +24,10 @@ use Rattle.cards.specs.Cards.{chipOf, whenKnown, hasTable, tableAt, baseOf}
 use Rattle.cards.proofs.Tables.{table-number, table-at-base}
 use Rattle.plans.specs.declared.Plan.{Plan}
 use Rattle.plans.specs.Plans.{Curve, planned, planChecks}
-use Rattle.records.specs.Records.{Sized as Lengths, header, body, recordOf, encoded, tellsUsed, roomChecks, writeChecks, Writes}
-use Rattle.records.specs.declared.Used.{Used}
+use Rattle.records.specs.Records.{Sized as Lengths, header, body, recordOf, encoded, roomChecks, writeChecks, Writes}
 use Rattle.scripts.specs.declared.making.Script.{Script}
-use Rattle.scripts.specs.declared.making.Ready.{Ready}
 use Rattle.scripts.specs.Scripts.{Pair, fullOf, script, scriptOf, scriptFor}
-use Rattle.scripts.specs.Making.{writesOf, pairAt, pairsOf, Sized, laidOut, scriptIn, Describes, tellsReady, Prepares}
+use Rattle.scripts.specs.Making.{writesOf, pairAt, pairsOf, Sized, laidOut, scriptIn, Describes, Prepares}
 use Rattle.scripts.proofs.Fitting.{settings-fill, speeds-fill, halves-length}
 use Rattle.scripts.proofs.Pairs.{nothing, rowTable, script-length, raised-at, body-at}
 
@@ -144,9 +145,9 @@ record-within (Known F75373s) plan long =
 record-within (Known Nct80) plan long = omega arith
 record-within Unknown plan long = omega arith
 
-module _ {plan : Plan} {old bytes : List ℕ} {used : Used} (long : Lengths plan) (room : length old ≡ 18) (w : Writes plan old used bytes) where
+module _ {plan : Plan} {old bytes : List ℕ} {used : Count} (long : Lengths plan) (room : length old ≡ 18) (w : Writes plan old used bytes) where
   -- there is room for the record, so only the plan's own checks count
-  pub judged : tellsUsed used .0 ≡ first (planChecks plan)
+  pub judged : tellsCount used .0 ≡ first (planChecks plan)
   judged = ap (λ (t : ℕ × ℕ). t .0) (w .answer) ∙ by-plan (first (planChecks plan)) refl
     where
       fits : ltb (length old) (length (encoded plan)) ≡ false
@@ -173,7 +174,7 @@ module _ {plan : Plan} {old bytes : List ℕ} {used : Used} (long : Lengths plan
           rw (q, has, whole) (describes-plan chip plan (drop (length (recordOf chip plan)) old) long has)
       by-name Unknown q = absurd (true≢false (rw q at (checks .0)))
 
-  pub prepares : (ready : Ready) (s : Script) → tellsReady ready ≡ tellsUsed used .0 → s ≡ scriptIn plan bytes
+  pub prepares : (ready : Outcome) (s : Script) → tells ready ≡ tellsCount used .0 → s ≡ scriptIn plan bytes
       → Prepares plan (record { ready = ready; script = s })
   prepares ready s e q =
       record {

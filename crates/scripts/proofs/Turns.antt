@@ -8,11 +8,11 @@ use mathlib.Core.List.{List, [], _∷_, _++_, append-assoc}
 use borrow.Author.Tests.{eq-eqb}
 use lib.ListN.{length, getD, set, drop, length-append, length-set}
 use lib.Seq.{drop-cons, set-at}
+use Rattle.refusal.specs.declared.Outcome.{Outcome}
 use Rattle.cards.specs.declared.Chip.{Chip}
 use Rattle.cards.specs.declared.Named.{Named}
 use Rattle.cards.specs.declared.Named.the-variants.{Known, Unknown}
 use Rattle.cards.specs.Cards.{chipOf, whenKnown}
-use Rattle.images.specs.declared.Outcome.{Outcome}
 use Rattle.images.specs.Bytes.{written}
 use Rattle.images.specs.Images.{Writes}
 use Rattle.scripts.specs.declared.making.Script.{Script}

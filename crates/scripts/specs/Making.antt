@@ -6,7 +6,7 @@ use mathlib.Core.Bool.{cond}
 use mathlib.Core.List.{List, [], _∷_, _++_}
 use lib.Dec.{ltb}
 use lib.ListN.{length, getD, take}
-use Rattle.refusal.specs.Refusals.{numberOf}
+use Rattle.refusal.specs.Answers.{tells}
 use Rattle.refusal.specs.Checks.{first}
 use Rattle.cards.specs.declared.Chip.{Chip}
 use Rattle.cards.specs.declared.Chip.the-variants.{Nct7802y, F75373s, Nct80}
@@ -15,8 +15,6 @@ use Rattle.plans.specs.declared.Plan.{Plan}
 use Rattle.plans.specs.Plans.{planChecks}
 use Rattle.scripts.specs.declared.making.Script.{Script}
 use Rattle.scripts.specs.declared.making.Pair as code
-use Rattle.scripts.specs.declared.making.Ready.{Ready}
-use Rattle.scripts.specs.declared.making.Ready.the-variants as ready
 use Rattle.scripts.specs.declared.making.Prepared.{Prepared}
 use Rattle.scripts.specs.Scripts.{Pair, fullOf, scriptFor}
 
@@ -62,12 +60,7 @@ pub record Describes (s : Script) (pairs : List Pair) : Type 0 where
   pub writes : writesOf s ≡ length pairs
   pub places : (n : ℕ) → n ≤ length pairs → pairsOf s n ≡ take n pairs
 
--- the paper's number of a plan's judgement
-abbrev pub tellsReady : Ready → ℕ
-tellsReady ready.Accepted = 0
-tellsReady (ready.Refused r) = numberOf r
-
 pub record Prepares (plan : Plan) (r : Prepared) : Type 0 where
-  pub answer : tellsReady (r .ready) ≡ first (planChecks plan)
+  pub answer : tells (r .ready) ≡ first (planChecks plan)
   pub sized : Sized (r .script)
   pub pairs : first (planChecks plan) ≡ 0 → Describes (r .script) (scriptFor plan)

@@ -5,7 +5,8 @@ use mathlib.Core.Path.{_≡_}
 use mathlib.Core.List.{List, [], _∷_, _++_}
 use lib.Dec.{ltb}
 use lib.ListN.{length, take, drop}
-use Rattle.refusal.specs.Refusals.{numberOf}
+use Rattle.refusal.specs.declared.Count.{Count}
+use Rattle.refusal.specs.Answers.{tellsCount}
 use Rattle.refusal.specs.Checks.{Check, told, left}
 use Rattle.cards.specs.declared.Chip.{Chip}
 use Rattle.cards.specs.declared.Chip.the-variants.{Nct7802y, F75373s, Nct80}
@@ -17,8 +18,6 @@ use Rattle.plans.specs.declared.Plan.{Plan}
 use Rattle.plans.specs.Curves.{points}
 use Rattle.plans.specs.Orders.{fulls}
 use Rattle.plans.specs.Plans.{Curve, planned, planChecks}
-use Rattle.scripts.specs.declared.Made.{Made}
-use Rattle.scripts.specs.declared.Made.the-variants as made
 
 -- "A script is pairs of address and byte."
 abbrev pub Pair : Type 0
@@ -57,11 +56,6 @@ played chip (w ∷ ws) image = played chip ws (written chip (w .0) (w .1) image)
 abbrev pub scriptFor : Plan → List Pair
 scriptFor plan = whenKnown (chipOf (plan .chip)) (λ c. scriptOf c plan) []
 
--- the paper's number and the number of writes of an answer
-abbrev pub tells : Made → ℕ × ℕ
-tells (made.Writes n) = (0, n)
-tells (made.Refused r) = (numberOf r, 0)
-
 -- "Writing .. a script checks the plan by 3, 4, 6, 7 and then 9"
 abbrev pub scriptChecks : Plan → List ℕ → List Check
 scriptChecks plan out = planChecks plan ++ ((ltb (length out) (2 * length (scriptFor plan)), 9) ∷ [])
@@ -71,11 +65,11 @@ abbrev pub playChecks : Plan → List ℕ → List Check
 playChecks plan image = planChecks plan ++ ((notAnImage image, 8) ∷ (unconfirmed (plan .chip) image, 10) ∷ [])
 
 -- what `scripts::script` promises: "The answer says how many writes"; "An output longer than the result keeps its tail."
-pub record Scripts (plan : Plan) (old : List ℕ) (r : Made) (new : List ℕ) : Type 0 where
-  pub answer : tells r ≡ told (scriptChecks plan old) (length (scriptFor plan))
+pub record Scripts (plan : Plan) (old : List ℕ) (r : Count) (new : List ℕ) : Type 0 where
+  pub answer : tellsCount r ≡ told (scriptChecks plan old) (length (scriptFor plan))
   pub bytes : new ≡ left (scriptChecks plan old) (flat (scriptFor plan) ++ drop (2 * length (scriptFor plan)) old) old
 
 -- what `scripts::play` promises: "a number above the script's length means all. It answers how many it made."
-pub record Plays (plan : Plan) (old : List ℕ) (count : ℕ) (r : Made) (new : List ℕ) : Type 0 where
-  pub answer : tells r ≡ told (playChecks plan old) (min count (length (scriptFor plan)))
+pub record Plays (plan : Plan) (old : List ℕ) (count : ℕ) (r : Count) (new : List ℕ) : Type 0 where
+  pub answer : tellsCount r ≡ told (playChecks plan old) (min count (length (scriptFor plan)))
   pub bytes : new ≡ left (playChecks plan old) (whenKnown (chipOf (plan .chip)) (λ c. played c (take count (scriptOf c plan)) old) old) old

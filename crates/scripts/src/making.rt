@@ -3,8 +3,8 @@ use cards::Chip;
 use cards::Named;
 use cards::Place;
 use plans::Plan;
-use records::Used;
-use refusal::Refusal;
+use refusal::Count;
+use refusal::Outcome;
 ghost use Prim.Native.Nat.{_+_, _<_};
 ghost use mathlib.Core.Path.{_≡_};
 ghost use Rattle.scripts.specs.Making.{pairAt, writesOf, Sized, scriptIn, Lays, Prepares};
@@ -23,13 +23,8 @@ pub struct Pair {
     pub byte: u8,
 }
 
-pub enum Ready {
-    Accepted,
-    Refused(Refusal),
-}
-
 pub struct Prepared {
-    pub ready: Ready,
+    pub ready: Outcome,
     pub script: Script,
 }
 
@@ -105,19 +100,19 @@ fn script_of(plan: Plan, bytes: [u8; 18]) -> Script
 }
 
 // Judges a plan and makes its record, from which its script is written.
-pub fn prepare(plan: Plan) -> Prepared
+pub(crate) fn prepare(plan: Plan) -> Prepared
     ensures { λ r. ⌜ Prepares plan r ⌝ }
 {
     let mut bytes = [0u8; 18];
     let used = records::write(plan, &mut bytes);
     let script = script_of(plan, bytes);
     match used {
-        Used::Refused(refusal) => Prepared {
-            ready: Ready::Refused(refusal),
+        Count::Refused(refusal) => Prepared {
+            ready: Outcome::Refused(refusal),
             script,
         },
-        Used::Bytes(_) => Prepared {
-            ready: Ready::Accepted,
+        Count::Of(_) => Prepared {
+            ready: Outcome::Accepted,
             script,
         },
     }

@@ -7,7 +7,7 @@ ghost use Rattle.cards.specs.Cards.{chipOf, whenKnown};
 ghost use Rattle.scripts.specs.Scripts.{played};
 ghost use Rattle.scripts.specs.Making.{pairsOf, writesOf, Sized};
 
-pub fn least(a: usize, b: usize) -> usize
+pub(crate) fn least(a: usize, b: usize) -> usize
     ensures { λ r. ⌜ r ≡ min a b ⌝ }
 {
     if a < b { a } else { b }

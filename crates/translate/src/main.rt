@@ -2,7 +2,7 @@
 use libc::STDERR_FILENO;
 use libc::STDIN_FILENO;
 use libc::STDOUT_FILENO;
-use translation::Text;
+use refusal::Count;
 ghost use Rattle.translate.specs.Inputs.{Holds};
 
 enum Input {
@@ -37,12 +37,12 @@ fn say(words: &[u8]) {
 fn translated(input: &[u8]) {
     let mut text = [0u8; 40979];
     match translation::translate(input, &mut text) {
-        Text::Refused(refusal) => {
+        Count::Refused(refusal) => {
             say(b"translate: refused ");
             io::print_decimal(STDERR_FILENO, refusal::number(refusal) as u64);
             say(b"\n");
         }
-        Text::Bytes(length) => {
+        Count::Of(length) => {
             if !io::write_all(STDOUT_FILENO, &text[..length]) {
                 say(b"translate: standard output cannot be written\n");
             }

@@ -11,9 +11,10 @@ use lib.Dec.{eqb, ltb}
 use lib.ListN.{length, drop}
 use lib.Seq.{sets-eq}
 use Rattle.refusal.specs.declared.Refusal.the-variants.{OutputTooShort}
-use Rattle.translation.specs.declared.Text.{Text}
-use Rattle.translation.specs.declared.Text.the-variants as answer
-use Rattle.translation.specs.Text.{tooLong, textFrom, textOf, tells, Translates}
+use Rattle.refusal.specs.declared.Count.{Count}
+use Rattle.refusal.specs.declared.Count.the-variants as counted
+use Rattle.refusal.specs.Answers.{tellsCount}
+use Rattle.translation.specs.Text.{tooLong, textFrom, textOf, Translates}
 use Rattle.translation.specs.Parts.{Adds}
 use Rattle.translation.proofs.Bound.{text-short}
 use Rattle.translation.proofs.Unique.{translates-unique}
@@ -26,13 +27,13 @@ pub text-read : (input : List ℕ) → length input ≤ 4096 → textFrom (lengt
 unfolding textOf
 text-read input h = rw (le-ltb 4096 (length input) h)
 
-pub cramped : (input old : List ℕ) → length old < length (textOf input) → Translates input old (answer.Refused OutputTooShort) old
+pub cramped : (input old : List ℕ) → length old < length (textOf input) → Translates input old (counted.Refused OutputTooShort) old
 cramped input old h =
     let short = lt-ltb (length old) (length (textOf input)) h in
     record { answer = rw short; bytes = rw short }
 
 pub translated : (input old : List ℕ) {r : ℕ} {new : List ℕ} → length (textOf input) ≤ length old → Adds (textOf input) old 0 r new
-    → Translates input old (answer.Bytes r) new
+    → Translates input old (counted.Of r) new
 translated input old {r} {new} h a =
     let text = textOf input in
     let room = le-ltb (length old) (length (textOf input)) h in
@@ -44,9 +45,9 @@ translated input old {r} {new} h a =
     record { answer = rw room (ap (λ (n : ℕ). (0, n)) length-added); bytes = rw room placed }
 
 -- what is written lies within the buffer
-pub answer-within : {input old : List ℕ} {r : Text} {n : ℕ} {new : List ℕ} → Translates input old r new → r ≡ answer.Bytes n → n ≤ length old
+pub answer-within : {input old : List ℕ} {r : Count} {n : ℕ} {new : List ℕ} → Translates input old r new → r ≡ counted.Of n → n ≤ length old
 answer-within {input} {old} {r} {n} t q =
-    by-room (ltb (length old) (length (textOf input))) refl (ap (λ (a : ℕ × ℕ). a .1) (sym (ap tells q) ∙ t .answer))
+    by-room (ltb (length old) (length (textOf input))) refl (ap (λ (a : ℕ × ℕ). a .1) (sym (ap tellsCount q) ∙ t .answer))
   where
     by-room : (short : Bool) → ltb (length old) (length (textOf input)) ≡ short
         → n ≡ cond (eqb (cond short 9 0) 0) (length (textOf input)) 0 → n ≤ length old
@@ -54,7 +55,7 @@ answer-within {input} {old} {r} {n} t q =
     by-room false s e = omega (arith, ltb-false (length old) (length (textOf input)) s)
 
 -- a buffer of 40,979 bytes takes the text of any input
-pub always-written : {input old : List ℕ} {r : Text} {new : List ℕ} → 40979 ≤ length old → Translates input old r new
-    → r ≡ answer.Bytes (length (textOf input))
+pub always-written : {input old : List ℕ} {r : Count} {new : List ℕ} → 40979 ≤ length old → Translates input old r new
+    → r ≡ counted.Of (length (textOf input))
 always-written {input} {old} {r} {new} h t =
     translates-unique t (translated input old (omega (arith, text-short input)) (record { next = sym (zero-add (length (textOf input))); bytes = refl })) .0

@@ -13,36 +13,37 @@ use Rattle.refusal.specs.declared.Refusal.{Refusal}
 use Rattle.refusal.specs.Checks.{first}
 use Rattle.refusal.proofs.Numbers.{not-accepted}
 use Rattle.refusal.proofs.Passed.{first-passed, told-passed}
+use Rattle.refusal.specs.declared.Count.{Count}
+use Rattle.refusal.specs.declared.Count.the-variants as counted
+use Rattle.refusal.specs.Answers.{tellsCount}
 use Rattle.plans.specs.declared.Plan.{Plan}
 use Rattle.plans.specs.Plans.{planChecks}
-use Rattle.scripts.specs.declared.Made.{Made}
-use Rattle.scripts.specs.declared.Made.the-variants as made
-use Rattle.scripts.specs.Scripts.{Pair, flat, scriptFor, tells, scriptChecks, Scripts}
+use Rattle.scripts.specs.Scripts.{Pair, flat, scriptFor, scriptChecks, Scripts}
 use Rattle.translation.specs.Text.{headerLine, writeLines, planText}
 use Rattle.translation.specs.Parts.{Within, Adds, Accepts, pairsIn}
 use Rattle.translation.proofs.Adding.{adds-then, adds-as}
 use Rattle.translation.proofs.WriteLines.{pairs-flat}
 
-module _ {plan : Plan} {old bytes : List ℕ} {r : Made} (a : Accepts plan) (room : length old ≡ 48) (s : Scripts plan old r bytes) where
+module _ {plan : Plan} {old bytes : List ℕ} {r : Count} (a : Accepts plan) (room : length old ≡ 48) (s : Scripts plan old r bytes) where
   none : first (scriptChecks plan old) ≡ 0
   none =
       first-passed (planChecks plan) ((ltb (length old) (2 * length (scriptFor plan)), 9) ∷ []) refl (a .checks)
       ∙ rw (le-ltb (length old) (2 * length (scriptFor plan)) (omega (arith, a .writes)))
 
-  answered : tells r ≡ (0, length (scriptFor plan))
+  answered : tellsCount r ≡ (0, length (scriptFor plan))
   answered = s .answer ∙ sym (told-passed (scriptChecks plan old) (length (scriptFor plan)) none)
 
-  pub never-refused : (q : Refusal) → r ≡ made.Refused q → ⊥
-  never-refused q e = not-accepted q (ap (λ (t : ℕ × ℕ). t .0) (sym answered ∙ ap tells e))
+  pub never-refused : (q : Refusal) → r ≡ counted.Refused q → ⊥
+  never-refused q e = not-accepted q (ap (λ (t : ℕ × ℕ). t .0) (sym answered ∙ ap tellsCount e))
 
   written : bytes ≡ flat (scriptFor plan) ++ drop (2 * length (scriptFor plan)) old
   written =
       s .bytes
       ∙ ap (λ (n : ℕ). cond (eqb n 0) (flat (scriptFor plan) ++ drop (2 * length (scriptFor plan)) old) old) none
 
-  module _ (n : ℕ) (e : r ≡ made.Writes n) where
+  module _ (n : ℕ) (e : r ≡ counted.Of n) where
     pub count : n ≡ length (scriptFor plan)
-    count = ap (λ (t : ℕ × ℕ). t .1) (sym (ap tells e) ∙ answered)
+    count = ap (λ (t : ℕ × ℕ). t .1) (sym (ap tellsCount e) ∙ answered)
 
     pairs : pairsIn n bytes ≡ scriptFor plan
     pairs =

@@ -7,14 +7,13 @@ use mathlib.Core.Bool.{cond}
 use mathlib.Core.List.{List, [], _∷_, _++_}
 use lib.Dec.{eqb, ltb}
 use lib.ListN.{length, drop}
-use Rattle.refusal.specs.Refusals.{numberOf}
+use Rattle.refusal.specs.declared.Count.{Count}
+use Rattle.refusal.specs.Answers.{tellsCount}
 use Rattle.refusal.specs.Checks.{first, told, left}
 use Rattle.cards.specs.Cards.{chipOf, whenKnown}
 use Rattle.plans.specs.declared.Plan.{Plan}
 use Rattle.records.specs.Records.{chipIn, planIn, recordLength, recordChecks, roomChecks}
 use Rattle.scripts.specs.Scripts.{Pair, scriptFor}
-use Rattle.translation.specs.declared.Text.{Text}
-use Rattle.translation.specs.declared.Text.the-variants as answer
 use Rattle.translation.specs.Words.{ascii, hexadecimal, decimal}
 
 -- a word and a number behind it
@@ -76,13 +75,8 @@ textFrom (suc turns) plans bytes =
 unfoldable pub textOf : List ℕ → List ℕ
 textOf input = cond (ltb 4096 (length input)) tooLong (textFrom (length input) 0 input)
 
--- the paper's number and the number of bytes of an answer
-abbrev pub tells : Text → ℕ × ℕ
-tells (answer.Bytes n) = (0, n)
-tells (answer.Refused r) = (numberOf r, 0)
-
 -- what `translation::translate` promises: refused 9 where "the output buffer is shorter than the result"; "An output longer than the result
 -- keeps its tail." The input is only read, so it is what it was.
-pub record Translates (input old : List ℕ) (r : Text) (new : List ℕ) : Type 0 where
-  pub answer : tells r ≡ told (roomChecks (textOf input) old) (length (textOf input))
+pub record Translates (input old : List ℕ) (r : Count) (new : List ℕ) : Type 0 where
+  pub answer : tellsCount r ≡ told (roomChecks (textOf input) old) (length (textOf input))
   pub bytes : new ≡ left (roomChecks (textOf input) old) (textOf input ++ drop (length (textOf input)) old) old

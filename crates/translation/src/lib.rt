@@ -4,19 +4,12 @@ mod numbers;
 mod output;
 
 use plans::Plan;
-use records::Used;
+use refusal::Count;
 use refusal::Refusal;
-use scripts::Made;
 ghost use Prim.Native.Nat.{_≤_};
 ghost use lib.ListN.{length};
 ghost use Rattle.translation.specs.Text.{planText, textFrom, textOf, Translates};
 ghost use Rattle.translation.specs.Parts.{Within, Adds, Accepts};
-
-// How many bytes a text has.
-pub enum Text {
-    Bytes(usize),
-    Refused(Refusal),
-}
 
 // An accepted plan's header and script. No script has more than 24 writes, so 48 bytes hold each, and none is refused.
 fn plan_lines(out: &mut [u8], at: usize, number: usize, plan: Plan) -> usize
@@ -25,7 +18,7 @@ fn plan_lines(out: &mut [u8], at: usize, number: usize, plan: Plan) -> usize
     ensures { λ r. ⌜ Adds (planText number plan) (now (out .entry)) at r (now (out .exit)) ⌝ }
 {
     let mut pairs = [0u8; 48];
-    let Made::Writes(writes) = scripts::script(plan, &mut pairs) else {
+    let Count::Of(writes) = scripts::script(plan, &mut pairs) else {
         return at;
     };
     let next = lines::header(out, at, number, plan.chip, plan.table, writes);
@@ -45,13 +38,13 @@ fn record_lines(input: &[u8], out: &mut [u8]) -> usize
         let answer = found.answer;
         let plan = found.plan;
         match answer {
-            Used::Refused(refusal) => return lines::refused(
+            Count::Refused(refusal) => return lines::refused(
                 out,
                 at,
                 plans + 1,
                 refusal::number(refusal),
             ),
-            Used::Bytes(used) => {
+            Count::Of(used) => {
                 at = plan_lines(out, at, plans + 1, plan);
                 from += used;
                 plans += 1;
@@ -71,13 +64,13 @@ fn all_lines(input: &[u8], out: &mut [u8]) -> usize
 }
 
 // Writes the text of an input to the front of the buffer, and answers its length. It is measured first, by a walk over a buffer without a byte.
-pub fn translate(input: &[u8], out: &mut [u8]) -> Text
+pub fn translate(input: &[u8], out: &mut [u8]) -> Count
     ensures { λ r. ⌜ Translates (now (input .entry)) (now (out .entry)) r (now (out .exit)) ⌝ }
 {
     let mut nowhere = [0u8; 0];
     let length = all_lines(input, &mut nowhere);
     if out.len() < length {
-        return Text::Refused(Refusal::OutputTooShort);
+        return Count::Refused(Refusal::OutputTooShort);
     }
-    Text::Bytes(all_lines(input, out))
+    Count::Of(all_lines(input, out))
 }

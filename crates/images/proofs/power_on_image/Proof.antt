@@ -1,9 +1,9 @@
 -- `images::power_on_image` meets its contract: the places passed hold the power-on values of their rows.
 -- Assumes nothing.
-use Rattle.images.proofs.Filling.{Filled, filled-none, filled-more, filled-all}
 use Rattle.cards.proofs.Columns.{column-length, column-at}
 use Rattle.cards.specs.Cards.{rowOf, powerOn}
 use Rattle.cards.specs.declared.Row.{Row}
+use Rattle.images.proofs.Filling.{Filled, filled-none, filled-more, filled-all}
 use Prim.Native.Nat.{_-_}
 use mathlib.Core.Path.{refl, ap}
 use borrow.Author.Needs.{needs}

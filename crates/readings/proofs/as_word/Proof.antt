@@ -33,12 +33,13 @@ cast-result-2 c =
     (kept (c .before .args .number) (rw (toZ-ofZ (c .before .fits .number)) at (c .if1 .left)) .0, fits-natAbs tt (c .before .fits .number))
 
 returns : tie.Need-returns
-returns c = rw (toZ-ofZ (sub-result c), without-top c) (omega (arith, set c))
+returns c = record { answer = rw (toZ-ofZ (sub-result c), without-top c) (omega (arith, set c)) }
 
 returns-2 : tie.Need-returns-2
 returns-2 c =
-    rw (toZ-ofZ (c .before .fits .number))
-    (kept (c .before .args .number) (rw (toZ-ofZ (c .before .fits .number)) at (c .if1 .left)) .1)
+    record {
+      answer = rw (toZ-ofZ (c .before .fits .number)) (kept (c .before .args .number) (rw (toZ-ofZ (c .before .fits .number)) at (c .if1 .left)) .1);
+    }
 
 pub as-word-spec : {M : Type 1} → statement M
 as-word-spec =

@@ -60,7 +60,7 @@ returns-3 : tie.Need-returns-3
 returns-3 c =
     let a = c .before .before .before .before .before .args in
     let known-width : isWidth (a .width) ≡ true = known (c .before .before .before) in
-    let word : c .as-word .result * 2 ^ (16 - a .width) % 2 ^ 16 ≡ asWord (a .steps *ℤ pos (2 ^ (16 - a .width))) = ap (λ n. n * 2 ^ (16 - a .width) % 2 ^ 16) (rw (toZ-ofZ (c .before .before .before .before .before .fits .steps)) at (c .as-word .ensures)) ∙ shifted (a .steps) (16 - a .width) (scaled-fits (a .width) (omega (arith, bounds (a .width) known-width)) (omega (arith, bounds (a .width) known-width)) (a .steps) (fit (c .before))) in
+    let word : c .as-word .result * 2 ^ (16 - a .width) % 2 ^ 16 ≡ asWord (a .steps *ℤ pos (2 ^ (16 - a .width))) = ap (λ n. n * 2 ^ (16 - a .width) % 2 ^ 16) (rw (toZ-ofZ (c .before .before .before .before .before .fits .steps)) at (c .as-word .ensures .answer)) ∙ shifted (a .steps) (16 - a .width) (scaled-fits (a .width) (omega (arith, bounds (a .width) known-width)) (omega (arith, bounds (a .width) known-width)) (a .steps) (fit (c .before))) in
     record { answer = rw (known-width, fit (c .before), word) }
 
 pub bytes-of-spec : {M : Type 1} → statement M

@@ -5,13 +5,14 @@ use borrow.Author.Tests.{lt-ltb}
 use mathlib.Core.Path.{sym, ap, _∙_}
 use native.Mathlib.Omega.{arith}
 use Prim.Native.Nat.{ℕ, _+_, _≤_, _<_}
-use Rattle.records.specs.Records.{bodyLength, recordLength, noPlan, bodyChecks}
-use Rattle.plans.specs.Plans.{decoded, tells, planChecks}
-use Rattle.plans.specs.declared.Plan.{Plan}
 use Rattle.refusal.proofs.Passed.{when-passed, told-passed}
 use Rattle.refusal.specs.Checks.{first}
-use Rattle.records.proofs.Answers.{body-refused, body-judged}
+use Rattle.refusal.specs.Answers.{tells}
 use Rattle.cards.proofs.Tables.{place-found, place-missed}
+use Rattle.plans.specs.Plans.{decoded, planChecks}
+use Rattle.plans.specs.declared.Plan.{Plan}
+use Rattle.records.specs.Records.{bodyLength, recordLength, noPlan, bodyChecks}
+use Rattle.records.proofs.Answers.{body-refused, body-judged}
 use borrow.Author.Needs.{needs}
 use Rattle.records.proofs.read_known.Statement.{statement}
 use Rattle.records.proofs.read_known.Tie as tie

@@ -1,7 +1,7 @@
 -- `records::write` meets its contract: each answer knows which chip the number names and how the plan was judged.
 -- Assumes nothing.
 use Rattle.refusal.specs.declared.Refusal.{Refusal}
-use Rattle.plans.specs.Plans.{tells}
+use Rattle.refusal.specs.Answers.{tells}
 use mathlib.Core.Path.{sym, ap, _∙_}
 use Rattle.records.proofs.Answers.{write-refused, write-accepted}
 use borrow.Author.Needs.{needs}

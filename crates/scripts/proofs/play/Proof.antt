@@ -1,7 +1,7 @@
 -- `scripts::play` meets its contract: each answer knows how the plan was judged and whether the image is confirmed.
 -- Assumes nothing.
+use Rattle.refusal.specs.Answers.{tells}
 use Rattle.scripts.proofs.Answers.{answered, confirmed-long, play-refused, play-unconfirmed, play-made}
-use Rattle.scripts.specs.Making.{tellsReady}
 use mathlib.Core.Path.{sym, ap, _∙_}
 use native.Mathlib.Nat.{min-le-right}
 use Prim.Native.Nat.{min}
@@ -42,7 +42,7 @@ make-requires c κs =
 returns : tie.Need-returns
 returns c =
     let k = c .before .before .before .before in
-    play-refused _ _ _ _ (ap tellsReady (sym (c .before .ready .given .1)) ∙ k .prepare .ensures .answer)
+    play-refused _ _ _ _ (ap tells (sym (c .before .ready .given .1)) ∙ k .prepare .ensures .answer)
 
 same-length : tie.Need-same-length
 same-length c = search needs
@@ -51,7 +51,7 @@ returns-2 : tie.Need-returns-2
 returns-2 c =
     let asked = c .before .before .before in
     let k = asked .before .before .before .before .before in
-    let accepted = sym (k .prepare .ensures .answer) ∙ ap tellsReady (asked .before .before .enum-told .given .1) in
+    let accepted = sym (k .prepare .ensures .answer) ∙ ap tells (asked .before .before .enum-told .given .1) in
     play-unconfirmed _ _ _ accepted (answered (asked .identity .ensures) (c .before .refusal .given .1))
 
 same-length-2 : tie.Need-same-length-2
@@ -62,7 +62,7 @@ returns-3 c =
     let chosen = c .before .before .before .before in
     let asked = chosen .before .before .before .before in
     let k = asked .before .before .before .before .before in
-    let accepted = sym (k .prepare .ensures .answer) ∙ ap tellsReady (asked .before .before .enum-told .given .1) in
+    let accepted = sym (k .prepare .ensures .answer) ∙ ap tells (asked .before .before .enum-told .given .1) in
     play-made _ _ _ accepted (answered (asked .identity .ensures) (chosen .before .before .enum-told2 .given .1))
     (k .prepare .ensures .pairs accepted) (chosen .least .ensures ∙ ap (min _) (chosen .before .writes .ensures)) (c .before .before .make .ensures)
 

@@ -1,7 +1,7 @@
 -- `scripts::script` meets its contract: each answer knows how the plan was judged and how long the buffer is.
 -- Assumes nothing.
+use Rattle.refusal.specs.Answers.{tells}
 use Rattle.scripts.proofs.Answers.{script-refused, script-cramped, script-written}
-use Rattle.scripts.specs.Making.{tellsReady}
 use mathlib.Core.Path.{sym, ap, _∙_}
 use native.Mathlib.Omega.{arith}
 use borrow.Author.Needs.{needs}
@@ -26,7 +26,7 @@ mul-if1 c = search needs
 returns : tie.Need-returns
 returns c =
     let k = c .before .before .before .before .before in
-    let accepted = sym (k .prepare .ensures .answer) ∙ ap tellsReady (c .before .before .enum-told .given .1) in
+    let accepted = sym (k .prepare .ensures .answer) ∙ ap tells (c .before .before .enum-told .given .1) in
     script-cramped _ _ accepted (omega (arith, c .if1 .taken, c .before .writes .ensures, k .prepare .ensures .pairs accepted .writes))
 
 put-all-requires : tie.Need-put-all-requires
@@ -35,7 +35,7 @@ put-all-requires c κs = search needs
 returns-2 : tie.Need-returns-2
 returns-2 c =
     let k = c .before .before .before .before in
-    script-refused _ _ _ (ap tellsReady (sym (c .before .ready .given .1)) ∙ k .prepare .ensures .answer)
+    script-refused _ _ _ (ap tells (sym (c .before .ready .given .1)) ∙ k .prepare .ensures .answer)
 
 same-length : tie.Need-same-length
 same-length c = search needs
@@ -44,7 +44,7 @@ returns-3 : tie.Need-returns-3
 returns-3 c =
     let test = c .before .before .before .before in
     let k = test .before .before .before .before .before in
-    let accepted = sym (k .prepare .ensures .answer) ∙ ap tellsReady (test .before .before .enum-told .given .1) in
+    let accepted = sym (k .prepare .ensures .answer) ∙ ap tells (test .before .before .enum-told .given .1) in
     script-written _ _ accepted (k .prepare .ensures .pairs accepted) (test .before .writes .ensures) (test .if1 .left) (c .before .before .put-all .ensures)
 
 pub script-spec : {M : Type 1} → statement M

@@ -1,8 +1,7 @@
 -- `alarm::of_sampled` meets its contract: each arm packs what its case tells, and the facts are below 8.
 -- Assumes nothing.
-use Rattle.clib.specs.Packed.{packed, packsWatch}
-use Rattle.watch.specs.Promises.{tells}
 use Rattle.watch.specs.declared.Sampled.{Sampled}
+use Rattle.clib.specs.Packed.{packed, packsSampled}
 use native.Mathlib.Omega.{arith}
 use Prim.Native.Nat.{ℕ}
 use mathlib.Core.Path.{sym, ap, ap₂, _∙_}
@@ -34,12 +33,12 @@ packed-requires-2 c κs = omega arith
 returns : tie.Need-returns
 returns c =
     c .packed .ensures ∙ ap (λ (n : ℕ). packed 0 n) (c .before .facts-of .ensures .0)
-    ∙ sym (ap (λ (s : Sampled). packsWatch (tells s)) (c .before .before .before .sampled .given .1))
+    ∙ sym (ap (λ (s : Sampled). packsSampled s) (c .before .before .before .sampled .given .1))
 
 returns-2 : tie.Need-returns-2
 returns-2 c =
     c .packed2 .ensures ∙ ap₂ packed (c .before .before .number .ensures .answer) (c .before .facts-of2 .ensures .0)
-    ∙ sym (ap (λ (s : Sampled). packsWatch (tells s)) (c .before .before .before .before .sampled2 .given .1))
+    ∙ sym (ap (λ (s : Sampled). packsSampled s) (c .before .before .before .before .sampled2 .given .1))
 
 pub of-sampled-spec : {M : Type 1} → statement M
 of-sampled-spec =

@@ -1,11 +1,9 @@
 -- `alarm::yk_acknowledge` meets its contract: it packs the facts of the watch that crossed, acknowledged.
 -- Assumes nothing.
-use native.Mathlib.Omega.{arith}
-use Rattle.watch.specs.Alarm.{acknowledged}
-use Rattle.clib.specs.Facts.{factsOf}
-use Rattle.clib.specs.Packed.{packed}
 use Prim.Native.Nat.{ℕ}
+use native.Mathlib.Omega.{arith}
 use mathlib.Core.Path.{ap, _∙_}
+use Rattle.clib.specs.Packed.{packed}
 use borrow.Author.Needs.{needs}
 use Rattle.clib.proofs.alarm.yk_acknowledge.Statement.{statement}
 use Rattle.clib.proofs.alarm.yk_acknowledge.Tie as tie
@@ -24,10 +22,11 @@ packed-requires c κs = omega arith
 
 returns : tie.Need-returns
 returns c =
-    let facts = c .before .facts-of .ensures .0 ∙ ap factsOf (c .before .before .acknowledge .ensures .answer ∙ ap acknowledged (c .before .before .before .watch-of .ensures)) in
-    record { answer = c .packed .ensures ∙ ap (λ (n : ℕ). packed 0 n) facts }
+    record {
+      answer = _;
+      kept = rw (c .before .before .before .watch-of .ensures) at (c .before .before .acknowledge .ensures);
+      same = c .packed .ensures ∙ ap (λ (n : ℕ). packed 0 n) (c .before .facts-of .ensures .0);
+    }
 
 pub yk-acknowledge-spec : {M : Type 1} → statement M
-yk-acknowledge-spec =
-    tie.close
-    (tie.spec watch-of-requires acknowledge-requires facts-of-requires packed-requires returns)
+yk-acknowledge-spec = tie.close (tie.spec watch-of-requires acknowledge-requires facts-of-requires packed-requires returns)

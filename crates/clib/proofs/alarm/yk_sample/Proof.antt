@@ -1,8 +1,6 @@
 -- `alarm::yk_sample` meets its contract: it packs what the watch that crossed answers.
 -- Assumes nothing.
 use mir.Facts.{toZ-ofZ}
-use Rattle.clib.specs.Packed.{packsWatch}
-use mathlib.Core.Path.{ap, _∙_}
 use borrow.Author.Needs.{needs}
 use Rattle.clib.proofs.alarm.yk_sample.Statement.{statement}
 use Rattle.clib.proofs.alarm.yk_sample.Tie as tie
@@ -17,7 +15,13 @@ of-sampled-requires : tie.Need-of-sampled-requires
 of-sampled-requires c κs = search needs
 
 returns : tie.Need-returns
-returns c = record { answer = c .of-sampled .ensures ∙ ap packsWatch (rw (toZ-ofZ (c .before .before .before .fits .steps), toZ-ofZ (c .before .before .before .fits .high), toZ-ofZ (c .before .before .before .fits .hysteresis), c .before .before .watch-of .ensures) at (c .before .sample .ensures .answer)) }
+returns c =
+    let fits = c .before .before .before .fits in
+    record {
+      answer = _;
+      kept = rw (toZ-ofZ (fits .steps), toZ-ofZ (fits .high), toZ-ofZ (fits .hysteresis), c .before .before .watch-of .ensures) at (c .before .sample .ensures);
+      same = c .of-sampled .ensures;
+    }
 
 pub yk-sample-spec : {M : Type 1} → statement M
 yk-sample-spec = tie.close (tie.spec watch-of-requires sample-requires of-sampled-requires returns)

@@ -1,7 +1,5 @@
 -- `curves::yk_asked_of_image` meets its contract: it packs what the library answers.
 -- Assumes nothing.
-use Rattle.clib.specs.Packed.{packs}
-use mathlib.Core.Path.{ap, _∙_}
 use borrow.Author.Needs.{needs}
 use Rattle.clib.proofs.curves.yk_asked_of_image.Statement.{statement}
 use Rattle.clib.proofs.curves.yk_asked_of_image.Tie as tie
@@ -13,7 +11,7 @@ of-asked-requires : tie.Need-of-asked-requires
 of-asked-requires c κs = search needs
 
 returns : tie.Need-returns
-returns c = record { answer = c .of-asked .ensures ∙ ap packs (c .before .asked-of-image .ensures .answer) }
+returns c = record { answer = _; kept = c .before .asked-of-image .ensures; same = c .of-asked .ensures }
 
 pub yk-asked-of-image-spec : {M : Type 1} → statement M
 yk-asked-of-image-spec = tie.close (tie.spec asked-of-image-requires of-asked-requires returns)

@@ -1,7 +1,5 @@
 -- `curves::yk_asked_of_plan` meets its contract: it packs what the library answers of the plan that crossed.
 -- Assumes nothing.
-use Rattle.clib.specs.Packed.{packs}
-use mathlib.Core.Path.{ap, _∙_}
 use borrow.Author.Needs.{needs}
 use Rattle.clib.proofs.curves.yk_asked_of_plan.Statement.{statement}
 use Rattle.clib.proofs.curves.yk_asked_of_plan.Tie as tie
@@ -16,8 +14,7 @@ of-asked-requires : tie.Need-of-asked-requires
 of-asked-requires c κs = search needs
 
 returns : tie.Need-returns
-returns c = record { answer = c .of-asked .ensures ∙ ap packs (rw (c .before .before .plan-from .ensures) at (c .before .asked-of-plan .ensures .answer)) }
+returns c = record { answer = _; kept = rw (c .before .before .plan-from .ensures) at (c .before .asked-of-plan .ensures); same = c .of-asked .ensures }
 
 pub yk-asked-of-plan-spec : {M : Type 1} → statement M
-yk-asked-of-plan-spec =
-    tie.close (tie.spec plan-from-requires asked-of-plan-requires of-asked-requires returns)
+yk-asked-of-plan-spec = tie.close (tie.spec plan-from-requires asked-of-plan-requires of-asked-requires returns)

@@ -1,8 +1,7 @@
 -- `packing::of_asked` meets its contract: each arm packs what its case tells.
 -- Assumes nothing.
-use Rattle.clib.specs.Packed.{packed, packs}
-use Rattle.plans.specs.Plans.{tellsAsked}
 use Rattle.plans.specs.declared.Asked.{Asked}
+use Rattle.clib.specs.Packed.{packed, packsAsked}
 use Prim.Native.Nat.{ℕ}
 use mathlib.Core.Path.{sym, ap, _∙_}
 use borrow.Author.Needs.{needs}
@@ -28,12 +27,12 @@ packed-requires-2 : tie.Need-packed-requires-2
 packed-requires-2 c κs = search needs
 
 returns : tie.Need-returns
-returns c = c .packed .ensures ∙ sym (ap (λ (s : Asked). packs (tellsAsked s)) (c .before .before .asked .given .1))
+returns c = c .packed .ensures ∙ sym (ap (λ (s : Asked). packsAsked s) (c .before .before .asked .given .1))
 
 returns-2 : tie.Need-returns-2
 returns-2 c =
     c .packed2 .ensures ∙ ap (λ (n : ℕ). packed n 0) (c .before .number .ensures .answer)
-    ∙ sym (ap (λ (s : Asked). packs (tellsAsked s)) (c .before .before .before .asked2 .given .1))
+    ∙ sym (ap (λ (s : Asked). packsAsked s) (c .before .before .before .asked2 .given .1))
 
 pub of-asked-spec : {M : Type 1} → statement M
 of-asked-spec =

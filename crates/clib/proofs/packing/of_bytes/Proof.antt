@@ -1,8 +1,7 @@
 -- `packing::of_bytes` meets its contract: each arm packs what its case tells.
 -- Assumes nothing.
-use Rattle.clib.specs.Packed.{packed, packsPair}
-use Rattle.readings.specs.Promises.{tellsBytes}
 use Rattle.readings.specs.declared.Bytes.{Bytes}
+use Rattle.clib.specs.Packed.{packed, packsBytes}
 use Prim.Native.Nat.{ℕ}
 use mathlib.Core.Path.{sym, ap, _∙_}
 use borrow.Author.Needs.{needs}
@@ -37,12 +36,12 @@ packed-requires-2 : tie.Need-packed-requires-2
 packed-requires-2 c κs = search needs
 
 returns : tie.Need-returns
-returns c = c .packed .ensures ∙ sym (ap (λ (s : Bytes). packsPair (tellsBytes s)) (c .before .before .bytes .given .1))
+returns c = c .packed .ensures ∙ sym (ap (λ (s : Bytes). packsBytes s) (c .before .before .bytes .given .1))
 
 returns-2 : tie.Need-returns-2
 returns-2 c =
     c .packed2 .ensures ∙ ap (λ (n : ℕ). packed n 0) (c .before .number .ensures .answer)
-    ∙ sym (ap (λ (s : Bytes). packsPair (tellsBytes s)) (c .before .before .before .bytes2 .given .1))
+    ∙ sym (ap (λ (s : Bytes). packsBytes s) (c .before .before .before .bytes2 .given .1))
 
 pub of-bytes-spec : {M : Type 1} → statement M
 of-bytes-spec =

@@ -1,8 +1,7 @@
 -- `packing::of_outcome` meets its contract: each arm packs what its case tells.
 -- Assumes nothing.
-use Rattle.clib.specs.Packed.{packed}
-use Rattle.images.specs.Images.{tells}
-use Rattle.images.specs.declared.Outcome.{Outcome}
+use Rattle.refusal.specs.declared.Outcome.{Outcome}
+use Rattle.clib.specs.Packed.{packed, packsOutcome}
 use Prim.Native.Nat.{ℕ}
 use mathlib.Core.Path.{sym, ap, _∙_}
 use borrow.Author.Needs.{needs}
@@ -25,12 +24,12 @@ packed-requires-2 : tie.Need-packed-requires-2
 packed-requires-2 c κs = search needs
 
 returns : tie.Need-returns
-returns c = c .packed .ensures ∙ sym (ap (λ (s : Outcome). packed (tells s) 0) (c .before .enum-told .given .1))
+returns c = c .packed .ensures ∙ sym (ap (λ (s : Outcome). packsOutcome s) (c .before .enum-told .given .1))
 
 returns-2 : tie.Need-returns-2
 returns-2 c =
     c .packed2 .ensures ∙ ap (λ (n : ℕ). packed n 0) (c .before .number .ensures .answer)
-    ∙ sym (ap (λ (s : Outcome). packed (tells s) 0) (c .before .before .before .outcome .given .1))
+    ∙ sym (ap (λ (s : Outcome). packsOutcome s) (c .before .before .before .outcome .given .1))
 
 pub of-outcome-spec : {M : Type 1} → statement M
 of-outcome-spec =

@@ -1,20 +1,42 @@
 -- `packing::of_used` meets its contract: each arm packs what its case tells.
 -- Assumes nothing.
-use native.Mathlib.Omega.{arith}
-use Rattle.clib.specs.Packed.{packed, packs}
-use Rattle.records.specs.Records.{tellsUsed}
-use Rattle.records.specs.declared.Used.{Used}
 use Prim.Native.Nat.{ℕ}
-use mathlib.Core.Path.{sym, ap, _∙_}
+use borrow.Author.Tests.{ne-eqb}
+use Rattle.refusal.specs.declared.Refusal.{Refusal}
+use Rattle.refusal.specs.declared.Count.the-variants as counted
+use Rattle.refusal.specs.Refusals.{numberOf}
+use Rattle.refusal.proofs.Numbers.{numberOf-positive}
+use Rattle.refusal.specs.declared.Count.{Count}
+use Rattle.refusal.specs.Answers.{tellsCount}
+use Rattle.clib.specs.Packed.{packed, packsUsed}
+use native.Mathlib.Omega.{arith}
+use mathlib.Core.Path.{_≡_, sym, ap, _∙_}
 use borrow.Author.Needs.{needs}
 use Rattle.clib.proofs.packing.of_used.Statement.{statement}
 use Rattle.clib.proofs.packing.of_used.Tie as tie
 
+-- a refused record packs no value
+used-refused : {a : Count} {r : Refusal} {n : ℕ} (chip table : ℕ) → a ≡ counted.Refused r → n ≡ numberOf r → packed n 0 ≡ packsUsed a chip table
+used-refused {a} {r} {n} chip table e q =
+    rw (ap tellsCount e, q, ne-eqb (numberOf r) 0 (λ z. omega (arith, numberOf-positive r)))
+
 enum-known-used : tie.Need-enum-known-used
 enum-known-used c = search needs
 
+mul-packed : tie.Need-mul-packed
+mul-packed c = search needs
+
+add-packed : tie.Need-add-packed
+add-packed c = omega (arith, sym (ap (λ (s : Count). tellsCount s .1) (c .before .used .given .1)), c .before .before .before .pre)
+
+mul-packed-2 : tie.Need-mul-packed-2
+mul-packed-2 c = search needs
+
+add-packed-2 : tie.Need-add-packed-2
+add-packed-2 c = omega (arith, sym (ap (λ (s : Count). tellsCount s .1) (c .before .used .given .1)), c .before .before .before .pre)
+
 packed-requires : tie.Need-packed-requires
-packed-requires c κs = omega (arith, sym (ap (λ (s : Used). tellsUsed s .1) (c .before .used .given .1)), c .before .before .before .pre)
+packed-requires c κs = omega (arith, sym (ap (λ (s : Count). tellsCount s .1) (c .before .used .given .1)), c .before .before .before .pre)
 
 enum-known-used-2 : tie.Need-enum-known-used-2
 enum-known-used-2 c = search needs
@@ -26,18 +48,24 @@ packed-requires-2 : tie.Need-packed-requires-2
 packed-requires-2 c κs = search needs
 
 returns : tie.Need-returns
-returns c = c .packed .ensures ∙ sym (ap (λ (s : Used). packs (tellsUsed s)) (c .before .before .used .given .1))
+returns c =
+    let a = c .before .before .before .before .args in
+    c .packed .ensures ∙ sym (ap (λ (s : Count). packsUsed s (a .chip) (a .table)) (c .before .before .used .given .1))
 
 returns-2 : tie.Need-returns-2
 returns-2 c =
-    c .packed2 .ensures ∙ ap (λ (n : ℕ). packed n 0) (c .before .number .ensures .answer)
-    ∙ sym (ap (λ (s : Used). packs (tellsUsed s)) (c .before .before .before .used2 .given .1))
+    let a = c .before .before .before .before .before .args in
+    c .packed2 .ensures ∙ used-refused (a .chip) (a .table) (c .before .before .before .used2 .given .1) (c .before .number .ensures .answer)
 
 pub of-used-spec : {M : Type 1} → statement M
 of-used-spec =
     tie.close
     (tie.spec
     enum-known-used
+    mul-packed
+    add-packed
+    mul-packed-2
+    add-packed-2
     packed-requires
     enum-known-used-2
     number-requires

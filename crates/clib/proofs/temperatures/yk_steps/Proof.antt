@@ -1,7 +1,5 @@
 -- `temperatures::yk_steps` meets its contract: it packs what the library answers.
 -- Assumes nothing.
-use Rattle.clib.specs.Packed.{packsWord}
-use mathlib.Core.Path.{ap, _∙_}
 use borrow.Author.Needs.{needs}
 use Rattle.clib.proofs.temperatures.yk_steps.Statement.{statement}
 use Rattle.clib.proofs.temperatures.yk_steps.Tie as tie
@@ -13,7 +11,7 @@ of-steps-requires : tie.Need-of-steps-requires
 of-steps-requires c κs = search needs
 
 returns : tie.Need-returns
-returns c = record { answer = c .of-steps .ensures ∙ ap packsWord (c .before .steps-of .ensures .answer) }
+returns c = record { answer = _; kept = c .before .steps-of .ensures; same = c .of-steps .ensures }
 
 pub yk-steps-spec : {M : Type 1} → statement M
 yk-steps-spec = tie.close (tie.spec steps-of-requires of-steps-requires returns)

@@ -1,9 +1,10 @@
 -- `making::prepare` meets its contract: the record that is written is the one that the script is laid out from.
 -- Assumes nothing.
+use Rattle.refusal.specs.declared.Outcome.the-variants as outcome
+use Rattle.refusal.specs.declared.Count.{Count}
+use Rattle.refusal.specs.Answers.{tellsCount}
+use Rattle.records.specs.Records.{Sized as Lengths}
 use Rattle.scripts.proofs.Prepared.{prepares}
-use Rattle.scripts.specs.declared.making.Ready.the-variants as ready
-use Rattle.records.specs.Records.{Sized as Lengths, tellsUsed}
-use Rattle.records.specs.declared.Used.{Used}
 use lib.ListN.{length-map}
 use mathlib.Core.Path.{refl, sym, ap, _∙_}
 use borrow.Author.Needs.{needs}
@@ -39,13 +40,13 @@ returns : tie.Need-returns
 returns c =
     let k = c .before .before .before in
     let wrote = k .before .before in
-    prepares (plan-lengths (wrote .before .before)) refl (wrote .write .ensures) (ready.Refused _) _ (ap (λ (u : Used). tellsUsed u .0) (sym (c .before .used .given .1))) (k .script-of .ensures)
+    prepares (plan-lengths (wrote .before .before)) refl (wrote .write .ensures) (outcome.Refused _) _ (ap (λ (u : Count). tellsCount u .0) (sym (c .before .used .given .1))) (k .script-of .ensures)
 
 returns-2 : tie.Need-returns-2
 returns-2 c =
     let k = c .before .before in
     let wrote = k .before .before in
-    prepares (plan-lengths (wrote .before .before)) refl (wrote .write .ensures) ready.Accepted _ (ap (λ (u : Used). tellsUsed u .0) (sym (c .enum-told .given .1))) (k .script-of .ensures)
+    prepares (plan-lengths (wrote .before .before)) refl (wrote .write .ensures) outcome.Accepted _ (ap (λ (u : Count). tellsCount u .0) (sym (c .enum-told .given .1))) (k .script-of .ensures)
 
 pub prepare-spec : {M : Type 1} → statement M
 prepare-spec =

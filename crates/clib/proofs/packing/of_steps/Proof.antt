@@ -1,22 +1,21 @@
--- `words::of_steps` meets its contract: each arm packs what its case tells.
+-- `packing::of_steps` meets its contract: each arm packs what its case tells.
 -- Assumes nothing.
 use mir.Syntax.{w16}
 use mir.Val.{SFits}
 use mir.Facts.{toZ-ofZ}
-use Rattle.clib.specs.Packed.{packed, packsWord}
-use Rattle.readings.specs.Promises.{tellsSteps}
 use Rattle.readings.specs.declared.Steps.{Steps}
+use Rattle.clib.specs.Packed.{packed, packsSteps}
 use Prim.Native.Nat.{ℕ}
 use mathlib.Core.Path.{sym, ap, _∙_}
 use borrow.Author.Needs.{needs}
-use Rattle.clib.proofs.words.of_steps.Statement.{statement}
-use Rattle.clib.proofs.words.of_steps.Tie as tie
+use Rattle.clib.proofs.packing.of_steps.Statement.{statement}
+use Rattle.clib.proofs.packing.of_steps.Tie as tie
 
 enum-known-steps : tie.Need-enum-known-steps
 enum-known-steps c = search needs
 
-word-of-requires : tie.Need-word-of-requires
-word-of-requires c κs = search needs
+as-word-requires : tie.Need-as-word-requires
+as-word-requires c κs = search needs
 
 cast-packed : tie.Need-cast-packed
 cast-packed c = search needs
@@ -36,20 +35,20 @@ packed-requires-2 c κs = search needs
 returns : tie.Need-returns
 returns c =
     let number : SFits w16 (c .before .before .before .steps .given .0 .0) = record { sfits = c .before .before .known-told .given .0 .1 } in
-    c .packed .ensures ∙ ap (λ (n : ℕ). packed 0 n) (rw (toZ-ofZ number) at (c .before .word-of .ensures))
-    ∙ sym (ap (λ (s : Steps). packsWord (tellsSteps s)) (c .before .before .before .steps .given .1))
+    c .packed .ensures ∙ ap (λ (n : ℕ). packed 0 n) (rw (toZ-ofZ number) at (c .before .as-word .ensures .answer))
+    ∙ sym (ap (λ (s : Steps). packsSteps s) (c .before .before .before .steps .given .1))
 
 returns-2 : tie.Need-returns-2
 returns-2 c =
     c .packed2 .ensures ∙ ap (λ (n : ℕ). packed n 0) (c .before .number .ensures .answer)
-    ∙ sym (ap (λ (s : Steps). packsWord (tellsSteps s)) (c .before .before .before .steps2 .given .1))
+    ∙ sym (ap (λ (s : Steps). packsSteps s) (c .before .before .before .steps2 .given .1))
 
 pub of-steps-spec : {M : Type 1} → statement M
 of-steps-spec =
     tie.close
     (tie.spec
     enum-known-steps
-    word-of-requires
+    as-word-requires
     cast-packed
     packed-requires
     enum-known-steps-2
