@@ -1,8 +1,12 @@
 #!/usr/bin/env python3
-"""Writes the plan records of this folder and the text that each must give, from the rules alone: NAME.plan and NAME.txt."""
-import os
+"""Writes the plan records of this folder and the text that each must give, from the rules alone: NAME.plan and NAME.txt.
 
-HERE = os.path.dirname(os.path.abspath(__file__))
+    make.py [FOLDER]        to another folder
+"""
+import os
+import sys
+
+FOLDER = sys.argv[1] if len(sys.argv) > 1 else os.path.dirname(os.path.abspath(__file__))
 MARK = [0x43, 0x50]
 
 # Where each chip's fan tables begin.
@@ -38,9 +42,9 @@ def accepted(plans):
 
 
 def write(name, given, lines):
-    with open(os.path.join(HERE, name + '.plan'), 'wb') as f:
+    with open(os.path.join(FOLDER, name + '.plan'), 'wb') as f:
         f.write(bytes(given))
-    with open(os.path.join(HERE, name + '.txt'), 'w') as f:
+    with open(os.path.join(FOLDER, name + '.txt'), 'w') as f:
         f.write(''.join(line + '\n' for line in lines))
 
 
