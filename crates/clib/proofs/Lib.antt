@@ -1,2 +1,3 @@
 pub mod Within
 pub mod Unique
+pub mod Demands

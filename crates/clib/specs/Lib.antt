@@ -1,3 +1,4 @@
 pub mod Facts
 pub mod Bodies
 pub mod Packed
+pub mod Demands

@@ -9,7 +9,7 @@ use borrow.Author.Tests.{ltb-true, eq-eqb, ne-eqb}
 use lib.Dec.{eqb, ltb}
 use Rattle.refusal.specs.declared.Refusal.{Refusal}
 use Rattle.refusal.specs.Refusals.{numberOf}
-use Rattle.refusal.specs.Checks.{Check, first, told}
+use Rattle.refusal.specs.Checks.{Check, first, told, Demand1}
 use Rattle.refusal.proofs.Numbers.{numberOf-positive}
 
 pub passed : (applies : Bool) (number : ℕ) (checks : List Check) → 0 < number → first ((applies, number) ∷ checks) ≡ 0
@@ -73,3 +73,12 @@ all-passed ((applies, number) ∷ checks) t e =
     let both = and-eq-true-iff (ltb 0 number) (numbered checks) .0 t in
     let go = passed applies number checks (ltb-true 0 number (both .0)) e in
     (go .0, all-passed checks (both .1) (go .1))
+
+-- demand 1, whatever the checks of a call
+pub demand-1 : (checks : List Check) → Demand1 checks
+demand-1 checks =
+    record {
+      number = λ value. refl;
+      zero = λ refused value. rw (ne-eqb (first checks) 0 refused);
+      kept = λ refused new old. rw (ne-eqb (first checks) 0 refused);
+    }
