@@ -30,7 +30,8 @@
  *   chip 2, tables 1 and 2, 14 bytes: B1 B2 B3 B4 then C1 to C5, high byte first
  *       temperatures are degrees 0 to 255, counts 0 to 65,535; in the image from A0h, B0h
  *   chip 3 has no fan table.
- * Missing body bytes count as zero, further ones are ignored. A plan is in order when
+ * Pass exactly as many: missing body bytes count as zero, further ones are ignored. A plan is in
+ * order when
  *   chip 1: T1 < T2 < T3 < T4, T4 at most critical (else 6); FL1 to FL4 never fall (else 7)
  *   chip 2: B1 > B2 > B3 > B4 (else 6); C1 to C5 never fall (else 7).
  * More duty is faster; a smaller count is faster, 0000h is full speed and FFFFh is off.
@@ -48,11 +49,11 @@ extern "C" {
 /* Refusals: the low byte of an answer. */
 enum {
     YK_ACCEPTED = 0,
-    YK_REFUSED_HEAD = 1,         /* a plan record has fewer than 4 bytes left */
+    YK_REFUSED_HEADER = 1,       /* a plan record has fewer than 4 bytes left */
     YK_REFUSED_MARK = 2,         /* its mark is not 43h 50h */
     YK_REFUSED_CHIP = 3,         /* the chip number is not 1, 2 or 3 */
     YK_REFUSED_TABLE = 4,        /* the chip has no such fan table */
-    YK_REFUSED_CUT_SHORT = 5,    /* the record's body is cut short */
+    YK_REFUSED_BODY = 5,         /* the record's body is cut short */
     YK_REFUSED_TEMPERATURES = 6, /* temperatures of the plan are out of order */
     YK_REFUSED_SPEEDS = 7,       /* duties or counts of the plan are out of order */
     YK_REFUSED_IMAGE = 8,        /* a register image is not 256 bytes long */

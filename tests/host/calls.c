@@ -71,7 +71,7 @@ int main(void) {
 
     /* The example: read, written again, asked, as script, played, translated. */
     same("record", yk_read_record(record, sizeof record), packed(0, 13 + 256 * 1 + 65536 * 3));
-    same("cut record", yk_read_record(record, 12), YK_REFUSED_CUT_SHORT);
+    same("cut record", yk_read_record(record, 12), YK_REFUSED_BODY);
     memset(out, 0xEE, sizeof out);
     same("written", yk_write_record(1, 3, body, YK_BODY_CHIP_1, out, sizeof out), packed(0, 13));
     same("its bytes", (uint64_t)memcmp(out, record, 13), 0);
