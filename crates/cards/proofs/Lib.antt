@@ -4,4 +4,5 @@ pub mod Fixed
 pub mod FixedPoints
 pub mod Tables
 pub mod Numbers
+pub mod Told
 pub mod Unique

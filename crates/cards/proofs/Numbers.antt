@@ -10,12 +10,7 @@ use Rattle.cards.specs.declared.Chip.{Chip}
 use Rattle.cards.specs.declared.Chip.the-variants.{Nct7802y, F75373s, Nct80}
 use Rattle.cards.specs.declared.Named.{Named}
 use Rattle.cards.specs.declared.Named.the-variants.{Known, Unknown}
-use Rattle.cards.specs.Cards.{chipOf, whenKnown, unknown}
-
-abbrev pub chipNumber : Chip → ℕ
-chipNumber Nct7802y = 1
-chipNumber F75373s = 2
-chipNumber Nct80 = 3
+use Rattle.cards.specs.Cards.{chipOf, chipNumber, whenKnown, unknown}
 
 -- the test that names a chip
 abbrev test : Chip → Bool → Bool → Bool → Bool

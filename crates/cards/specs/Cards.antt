@@ -31,6 +31,16 @@ chipOf number =
     (cond (eqb number 3) (Known Nct80)
     Unknown))
 
+abbrev pub chipNumber : Chip → ℕ
+chipNumber Nct7802y = 1
+chipNumber F75373s = 2
+chipNumber Nct80 = 3
+
+-- "Where the answer is an enum, there is a definition that gives this paper's number and values for each of its cases": 0 and the chip's number, or 3
+abbrev pub tellsNamed : Named → ℕ × ℕ
+tellsNamed (Known chip) = (0, chipNumber chip)
+tellsNamed Unknown = (3, 0)
+
 -- refusal 3: "the chip number is not 1, 2 or 3"
 abbrev pub unknown : ℕ → Bool
 unknown number = whenKnown (chipOf number) (λ chip. false) true
@@ -72,6 +82,11 @@ baseOf chip number = getD (tableOf chip number .settings) 0 0
 -- refusal 4: "the chip has no such fan table"
 abbrev pub noTable : ℕ → ℕ → Bool
 noTable chip number = not (whenKnown (chipOf chip) (λ c. hasTable c number) false)
+
+-- the same of a place: 0 and where the table begins, or 4
+abbrev pub tellsPlace : Place → ℕ × ℕ
+tellsPlace (At base) = (0, base)
+tellsPlace Nowhere = (4, 0)
 
 -- what `cards::chip_of` promises
 pub record Names (number : ℕ) (named : Named) : Type 0 where

@@ -3,7 +3,7 @@
 -- Assumes nothing.
 use Prim.Native.Nat.{ℕ, _+_}
 use mathlib.Core.List.{List, [], _∷_}
-use Rattle.cards.specs.Rows.{Line, Required, Table, from}
+use Rattle.cards.specs.Rows.{Line, Required, Reading, Table, from}
 
 unfoldable pub card : List Line
 card =
@@ -176,6 +176,10 @@ identity =
     -- "bits 5 to 0 of 08h are zero"
     ∷ (0x08, 0x3F, 0x00)
     ∷ []
+
+-- "Readings": "1/8 at 11 (chip 1: high byte and bits 7 to 5 of 05h)"; the paper says "high byte" and no address
+abbrev pub temperature : Reading
+temperature = record { width = 11; high = []; low = 0x05; bits = 0xE0 }
 
 -- "table 1 has T1 to T4 at 80h to 83h, critical 84h, FL1 to FL4 85h to 88h; table 2 the same from 90h, table 3 from A0h"
 abbrev pub table : ℕ → Table

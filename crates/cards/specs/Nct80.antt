@@ -2,7 +2,7 @@
 -- Each line: the address, the writable bits, the bits that clear on one, the power-on value. docs/CARDS.md has the choices.
 -- Assumes nothing.
 use mathlib.Core.List.{List, [], _∷_}
-use Rattle.cards.specs.Rows.{Line}
+use Rattle.cards.specs.Rows.{Line, Reading}
 
 unfoldable pub card : List Line
 card =
@@ -48,3 +48,7 @@ card =
     ∷ (0x3D, 0xFF, 0x00, 0xFF)  -- TACH2_COUNT_LIMIT
     ∷ (0x3E, 0x00, 0x00, 0x1A)  -- MANUFACTURERID
     ∷ []
+
+-- "Readings": "1/16 at 12 (chip 3: 27h and bits 7 to 4 of 06h)"
+abbrev pub temperature : Reading
+temperature = record { width = 12; high = 0x27 ∷ []; low = 0x06; bits = 0xF0 }

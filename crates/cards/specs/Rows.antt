@@ -14,6 +14,14 @@ Line = ℕ × ℕ × ℕ × ℕ
 abbrev pub Required : Type 0
 Required = ℕ × ℕ × ℕ
 
+-- where a chip holds a temperature: its width, the address of its high byte where the rules paper names one, the address of its low bits, and
+-- which bits of that byte they are
+pub record Reading : Type 0 where
+  pub width : ℕ
+  pub high : List ℕ
+  pub low : ℕ
+  pub bits : ℕ
+
 abbrev pub row : ℕ → ℕ → ℕ → Row
 row writable clears power = record { writable = writable; clears = clears; «power_on» = power }
 

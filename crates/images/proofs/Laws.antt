@@ -1,15 +1,23 @@
--- What a byte write does to an image, for whoever plays several: its length and every other byte stay, and a row with mask FFh takes the byte.
+-- What a byte write does to an image, for whoever plays several: its length and every other byte stay, a row with mask FFh takes the byte, and a
+-- row without masks changes nothing. The two rows go bit by bit, by induction over the number of bits.
 -- Assumes nothing.
 use Prim.Native.Nat.{ℕ, zero, suc, _-_, _/_, _%_, _^_, _<_}
 use native.Mathlib.Nat.{pow-suc}
 use native.Mathlib.Omega.{arith}
-use mathlib.Core.Path.{_≡_, sym, _∙_}
+use mathlib.Core.Path.{_≡_, sym, ap, _∙_}
 use mathlib.Core.List.{List}
+use borrow.Author.Tests.{eq-eqb}
 use lib.Arith.{lt-one}
-use lib.ListN.{length, getD, length-set}
-use lib.Seq.{getD-set-same, getD-set-other}
+use lib.ListN.{length, getD, set, length-set}
+use lib.Seq.{getD-set-same, getD-set-other, set-getD}
+use Rattle.refusal.specs.declared.Outcome.{Outcome}
+use Rattle.refusal.specs.Answers.{tells}
+use Rattle.cards.specs.declared.Chip.{Chip}
+use Rattle.cards.specs.declared.Named.the-variants.{Known}
 use Rattle.cards.specs.declared.Row.{Row}
+use Rattle.cards.specs.Cards.{chipOf, rowOf}
 use Rattle.images.specs.Bytes.{storedBits, stored, storedAt}
+use Rattle.images.specs.Images.{Writes}
 
 -- the image keeps its length
 pub storedAt-length : (row : Row) (position byte : ℕ) (image : List ℕ) → length (storedAt row position byte image) ≡ length image
@@ -42,3 +50,31 @@ pub storedAt-full : (row : Row) (position byte : ℕ) (image : List ℕ) → row
 unfolding storedAt
 storedAt-full row position byte image e h inside =
     getD-set-same image position (stored row (getD image position 0) byte) 0 inside ∙ stored-full row (getD image position 0) byte e h
+
+-- no bit of either mask: every bit is the old one
+none-writable : (n o x : ℕ) → o < 2 ^ n → storedBits n 0 0 o x ≡ o
+none-writable zero o x h = sym (lt-one h)
+none-writable (suc n) o x h =
+    let less : o / 2 < 2 ^ n = omega (arith, rw pow-suc at h) in
+    rw (none-writable n (o / 2) (x / 2) less) (omega arith)
+
+-- a row without masks keeps the old byte
+pub stored-closed : (row : Row) (old byte : ℕ) → row .writable ≡ 0 → row .clears ≡ 0 → old < 2 ^ 8 → stored row old byte ≡ old
+unfolding stored
+stored-closed row old byte e f h = rw (e, f) (none-writable 8 old byte h)
+
+-- and so the image
+pub storedAt-closed : (row : Row) (position byte : ℕ) (image : List ℕ) → row .writable ≡ 0 → row .clears ≡ 0 → getD image position 0 < 2 ^ 8
+    → storedAt row position byte image ≡ image
+unfolding storedAt
+storedAt-closed row position byte image e f h =
+    ap (set image position) (stored-closed row (getD image position 0) byte e f h) ∙ set-getD image position 0
+
+-- "A write to a row without masks is accepted and changes nothing."
+pub write-closed : (number : ℕ) (chip : Chip) (address byte : ℕ) (old : List ℕ) {r : Outcome} {new : List ℕ}
+    → chipOf number ≡ Known chip → length old ≡ 256
+    → rowOf chip address .writable ≡ 0 → rowOf chip address .clears ≡ 0 → getD old address 0 < 2 ^ 8
+    → Writes number old address byte r new → (tells r ≡ 0) × (new ≡ old)
+write-closed number chip address byte old named long e f h p =
+    let size = eq-eqb (length old) 256 long in
+    (p .answer ∙ simp (named, size), p .bytes ∙ simp (named, size) (storedAt-closed (rowOf chip address) address byte old e f h))

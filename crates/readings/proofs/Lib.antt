@@ -5,4 +5,5 @@ pub mod Floor
 pub mod Scaled
 pub mod Unique
 pub mod RoundTrip
+pub mod Degrees
 pub mod Figures

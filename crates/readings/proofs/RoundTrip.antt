@@ -4,16 +4,15 @@
 use Prim.Native.Nat.{ℕ, _<_, _≤_}
 use native.Mathlib.Omega.{arith}
 use mathlib.Core.Path.{_≡_, refl, sym, ap, _∙_, subst}
-use mathlib.Core.Bool.{Bool, true, false, not}
-use mathlib.Core.List.{[], _∷_}
+use mathlib.Core.Bool.{Bool, true, false}
 use lib.IntN.{ℤ}
-use Rattle.refusal.specs.Checks.{first, toldOr}
+use Rattle.refusal.specs.Checks.{first}
 use Rattle.readings.specs.declared.Steps.{Steps}
 use Rattle.readings.specs.declared.Steps.the-variants as steps
 use Rattle.readings.specs.declared.Bytes.{Bytes}
 use Rattle.readings.specs.declared.Bytes.the-variants as bytes
 use Rattle.readings.specs.Readings.{isWidth, fits, wordOf, bytesOf, stepsAt, bytesAt, cleared}
-use Rattle.readings.specs.Promises.{Counts, Writes, tellsSteps, tellsBytes}
+use Rattle.readings.specs.Promises.{Counts, Writes, stepsChecks, bytesChecks, tellsSteps, tellsBytes}
 use Rattle.readings.proofs.Widths.{bounds}
 use Rattle.readings.proofs.Scaled.{steps-again, word-cleared, number-fits}
 use Rattle.readings.proofs.Unique.{tellsSteps-injective, tellsBytes-injective}
@@ -37,30 +36,42 @@ pub at-a-width : (width : ℕ) → isWidth width ≡ true → RoundTrip width
 at-a-width width e = round-trip width (omega (arith, bounds width e)) (omega (arith, bounds width e))
 
 -- no check applies: the answer tells 0 and its values
-accepted : {A : Type 0} (a b : Bool) (value zero : A) → a ≡ true → b ≡ true → toldOr zero ((not a, 11) ∷ (not b, 12) ∷ []) value ≡ (0, value)
-accepted a b value zero e f = rw (e, f)
-
 counted : {width high low : ℕ} {r : Steps} → isWidth width ≡ true → Counts width high low r → tellsSteps r ≡ (0, stepsAt width high low)
-counted {width} {high} {low} e p = rw e at (p .answer)
+counted e p = rw e at (p .answer)
 
-accepts : (a b : Bool) → 0 ≡ first ((not a, 11) ∷ (not b, 12) ∷ []) → (a ≡ true) × (b ≡ true)
-accepts true true e = (refl, refl)
-accepts true false e = absurd (omega arith)
-accepts false b e = absurd (omega arith)
+written : {width : ℕ} {n : ℤ} {r : Bytes} → isWidth width ≡ true → fits width n ≡ true → Writes width n r → tellsBytes r ≡ (0, bytesAt width n)
+written e f p = rw (e, f) at (p .answer)
+
+-- 0 is told only where no check applies
+known-width : (width : ℕ) → 0 ≡ first (stepsChecks width) → isWidth width ≡ true
+known-width width h = by-test (isWidth width) refl
+  where
+    by-test : (a : Bool) → isWidth width ≡ a → isWidth width ≡ true
+    by-test true e = e
+    by-test false e = absurd (omega (arith, rw e at h))
+
+none-applies : (width : ℕ) (n : ℤ) → 0 ≡ first (bytesChecks width n) → (isWidth width ≡ true) × (fits width n ≡ true)
+none-applies width n h = by-tests (isWidth width) (fits width n) refl refl
+  where
+    by-tests : (a b : Bool) → isWidth width ≡ a → fits width n ≡ b → (isWidth width ≡ true) × (fits width n ≡ true)
+    by-tests true true e f = (e, f)
+    by-tests true false e f = absurd (omega (arith, simp (e, f) at h))
+    by-tests false true e f = absurd (omega (arith, simp (e, f) at h))
+    by-tests false false e f = absurd (omega (arith, simp (e, f) at h))
 
 -- the bytes that `bytes_of` gives for n steps are counted as n by `steps_of`
 pub steps-come-back : {width high low : ℕ} {n : ℤ} {r : Steps} → Writes width n (bytes.Pair high low) → Counts width high low r → r ≡ steps.Counted n
 steps-come-back {width} {high} {low} {n} {r} p q =
-    let ok : (isWidth width ≡ true) × (fits width n ≡ true) = accepts (isWidth width) (fits width n) (ap (λ (t : ℕ × (ℕ × ℕ)). t .0) (p .answer)) in
-    let told-bytes : tellsBytes (bytes.Pair high low) ≡ (0, bytesAt width n) = p .answer ∙ accepted (isWidth width) (fits width n) (bytesAt width n) (0, 0) (ok .0) (ok .1) in
+    let ok : (isWidth width ≡ true) × (fits width n ≡ true) = none-applies width n (ap (λ (t : ℕ × (ℕ × ℕ)). t .0) (p .answer)) in
+    let told-bytes : tellsBytes (bytes.Pair high low) ≡ (0, bytesAt width n) = written (ok .0) (ok .1) p in
     tellsSteps-injective r (steps.Counted n)
     (counted (ok .0) q ∙ ap (λ (z : ℤ). (0, z)) (ap (λ (t : ℕ × (ℕ × ℕ)). stepsAt width (t .1 .0) (t .1 .1)) told-bytes ∙ at-a-width width (ok .0) .steps-bytes-steps n (ok .1)))
 
 -- two bytes that `steps_of` counts as n are, but for the ignored bits, what `bytes_of` gives for n
 pub bytes-come-back-cleared : {width high low : ℕ} {n : ℤ} {r : Bytes} → high < 256 → low < 256 → Counts width high low (steps.Counted n) → Writes width n r → r ≡ bytes.Pair (cleared width high low .0) (cleared width high low .1)
 bytes-come-back-cleared {width} {high} {low} {n} {r} h l p q =
-    let known : isWidth width ≡ true = accepts (isWidth width) true (ap (λ (t : ℕ × ℤ). t .0) (p .answer)) .0 in
+    let known : isWidth width ≡ true = known-width width (ap (λ (t : ℕ × ℤ). t .0) (p .answer)) in
     let is : stepsAt width high low ≡ n = sym (ap (λ (t : ℕ × ℤ). t .1) (counted known p)) in
     let fit : fits width n ≡ true = subst (λ (z : ℤ). fits width z ≡ true) is (at-a-width width known .steps-fit high low h l) in
     tellsBytes-injective r (bytes.Pair (cleared width high low .0) (cleared width high low .1))
-    (q .answer ∙ accepted (isWidth width) (fits width n) (bytesAt width n) (0, 0) known fit ∙ ap (λ (t : ℕ × ℕ). (0, t)) (ap (bytesAt width) (sym is) ∙ at-a-width width known .bytes-steps-bytes high low h l))
+    (written known fit q ∙ ap (λ (t : ℕ × ℕ). (0, t)) (ap (bytesAt width) (sym is) ∙ at-a-width width known .bytes-steps-bytes high low h l))

@@ -21,14 +21,14 @@ use Rattle.readings.proofs.Words.{number-is, number-word, low-number, h
 use Rattle.readings.proofs.Widths.{fits-is}
 
 -- a power of two in two parts
-parts : (j w : ℕ) → j ≤ w → 2 ^ j * 2 ^ (w - j) ≡ 2 ^ w
+pub parts : (j w : ℕ) → j ≤ w → 2 ^ j * 2 ^ (w - j) ≡ 2 ^ w
 parts j w h = sym (pow-add 2 j (w - j)) ∙ ap (λ (n : ℕ). 2 ^ n) (omega arith)
 
 halves : (w : ℕ) → 0 < w → w ≤ 16 → 2 ^ (w - 1) * 2 ^ (16 - w) ≡ 2 ^ 15
 halves w l h = ap (λ (n : ℕ). 2 ^ (w - 1) * 2 ^ n) (omega arith) ∙ parts (w - 1) 15 (omega arith)
 
 -- steps times 2 ^ k, divided again
-floored-scaled : (s : ℤ) (k : ℕ) → floored (s *ℤ pos (2 ^ k)) (2 ^ k) ≡ s
+pub floored-scaled : (s : ℤ) (k : ℕ) → floored (s *ℤ pos (2 ^ k)) (2 ^ k) ≡ s
 floored-scaled (pos n) k = ap pos (shl-shr n k)
 floored-scaled (negsuc n) k =
     let some : 0 < 2 ^ k = pow-pos k in

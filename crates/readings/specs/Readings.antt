@@ -35,6 +35,18 @@ floored (negsuc n) m = negsuc (n / m)
 abbrev pub stepsAt : ℕ → ℕ → ℕ → ℤ
 stepsAt w high low = floored (asNumber (wordOf high low)) (2 ^ (16 - w))
 
+-- "The step is 1 degree at width 8, 1/2 at 9, 1/8 at 11 .., 1/16 at 12": the steps of one degree
+abbrev pub stepsPerDegree : ℕ → ℕ
+stepsPerDegree w = 2 ^ (w - 8)
+
+-- the whole degrees of a high byte: a signed number of 8 bits
+abbrev pub degreesOf : ℕ → ℤ
+degreesOf high = cond (ltb high (2 ^ 7)) (pos high) (pos high -ℤ pos (2 ^ 8))
+
+-- the bits of the low byte that count at a width, its upper w - 8: "bits 7 to 5" at 11, "bits 7 to 4" at 12
+abbrev pub lowBits : ℕ → ℕ
+lowBits w = 2 ^ 8 - 2 ^ (16 - w)
+
 -- the two bytes of a count of steps: "The other low bits are .. written as zero"
 abbrev pub bytesAt : ℕ → ℤ → ℕ × ℕ
 bytesAt w steps = bytesOf (asWord (steps *ℤ pos (2 ^ (16 - w))))
