@@ -100,7 +100,7 @@ module _ (plan : Plan) (image : List ℕ) (count : ℕ) where
       record { answer = told-refused r (playChecks plan image) writes all; bytes = when-refused r _ image all }
 
   -- the chip of an accepted plan is known, so identity asks no more than play does
-  same-checks : first (planChecks plan) ≡ 0 → first (playChecks plan image) ≡ first (identityChecks (plan .chip) image)
+  pub same-checks : first (planChecks plan) ≡ 0 → first (playChecks plan image) ≡ first (identityChecks (plan .chip) image)
   same-checks e =
       first-passed (planChecks plan) ownChecks refl e
       ∙ sym (rw (all-passed (planChecks plan) refl e .0))
