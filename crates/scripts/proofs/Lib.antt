@@ -6,6 +6,7 @@ pub mod Fitting
 pub mod Pairs
 pub mod Turns
 pub mod Prepared
+pub mod Lengths
 pub mod Answers
 pub mod NeverRefused
 pub mod NeverSlower

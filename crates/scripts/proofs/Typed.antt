@@ -14,7 +14,6 @@ use denote.Shadow.{shadow}
 use denote.Struct.Declared.{row}
 use Rattle.plans.specs.declared.Plan.{Plan}
 use Rattle.plans.proofs.Plan as declared
-use Rattle.records.specs.Records.{Sized}
 use Rattle.scripts.specs.NeverSlower.{Within, Typed}
 use Rattle.scripts.proofs.Played.{all-of}
 

@@ -43,6 +43,12 @@ script full table curve =
 unfoldable pub scriptOf : Chip → Plan → List Pair
 scriptOf chip plan = script (fullOf chip) (tableOf chip (plan .table)) (planned chip plan)
 
+-- "13 writes"; "24 writes"; chip 3 has no fan table, so none
+abbrev pub scriptLength : Chip → ℕ
+scriptLength Nct7802y = 13
+scriptLength F75373s = 24
+scriptLength Nct80 = 0
+
 -- the script's bytes, address first
 abbrev pub flat : List Pair → List ℕ
 flat [] = []

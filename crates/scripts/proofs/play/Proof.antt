@@ -16,7 +16,7 @@ use borrow.Author.Needs.{needs}
 use Rattle.scripts.proofs.play.Statement.{statement}
 use Rattle.scripts.proofs.play.Tie as tie
 
--- what a play of these parameters promises, it promises safely
+-- both clauses of an answer, from the first
 safe : (c : tie.After-slice-known) {r : Count} {new : List ℕ} → Plays (c .before .args .plan) (c .before .args .image .now) (c .before .args .count) r new
     → Plays (c .before .args .plan) (c .before .args .image .now) (c .before .args .count) r new
     × Safely (c .before .args .plan) (c .before .args .image .now) (c .before .args .count) new
@@ -52,7 +52,7 @@ make-requires : tie.Need-make-requires
 make-requires c κs =
     let asked = c .before .before .before .before .before in
     let confirmed = answered (asked .identity .ensures) (c .before .before .before .enum-told2 .given .1) in
-    (asked .before .before .before .before .before .prepare .ensures .sized, (rw (c .before .least .ensures, c .before .before .writes .ensures) (min-le-right _ _), confirmed-long confirmed))
+    (asked .before .before .before .before .before .prepare .ensures .inside, (rw (c .before .least .ensures, c .before .before .writes .ensures) (min-le-right _ _), confirmed-long confirmed))
 
 returns : tie.Need-returns
 returns c =

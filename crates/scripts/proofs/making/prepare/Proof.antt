@@ -3,7 +3,7 @@
 use Rattle.refusal.specs.declared.Outcome.the-variants as outcome
 use Rattle.refusal.specs.declared.Count.{Count}
 use Rattle.refusal.specs.Answers.{tellsCount}
-use Rattle.records.specs.Records.{Sized as Lengths}
+use Rattle.records.specs.Records.{Sized}
 use Rattle.scripts.proofs.Prepared.{prepares}
 use Rattle.scripts.proofs.Typed.{plan-typed}
 use mathlib.Core.Path.{refl, sym, ap}
@@ -11,7 +11,7 @@ use borrow.Author.Needs.{needs}
 use Rattle.scripts.proofs.making.prepare.Statement.{statement}
 use Rattle.scripts.proofs.making.prepare.Tie as tie
 
-plan-lengths : (c : tie.Start) → Lengths (c .args .plan)
+plan-lengths : (c : tie.Start) → Sized (c .args .plan)
 plan-lengths c = plan-typed (c .args .plan) _ (c .good .0) .sized
 
 slice-aggregate-write : tie.Need-slice-aggregate-write
