@@ -1,4 +1,4 @@
--- A plan's record and the plan in a record's bytes undo each other, chip by chip.
+-- A plan's record has as many bytes as the paper says, and it and the plan in a record's bytes undo each other, chip by chip.
 -- Assumes nothing.
 use Prim.Native.Nat.{ℕ, _+_, _≤_, _<_}
 use native.Mathlib.Omega.{arith}
@@ -19,7 +19,7 @@ use Rattle.plans.specs.Curves.{halves, words}
 use Rattle.plans.specs.Plans.{planned, bytesAt, zeros, decoded, planChecks}
 use Rattle.plans.proofs.StepLaws.{words-halves, halves-words}
 use Rattle.plans.proofs.Registers.{in-a-row, spelled}
-use Rattle.records.specs.Records.{body, bodyLength, ownOf, Sized}
+use Rattle.records.specs.Records.{body, bodyLength, recordLength, recordOf, ownOf, Sized}
 
 -- "9 bytes for chip 1, 14 for chip 2": as many as each of the chip's tables has registers
 at-base : (chip : Chip) (base : ℕ) → length (positions (tableAt chip base)) ≡ bodyLength chip
@@ -32,7 +32,7 @@ body-of-table chip table has =
     ap (λ (t : Table). length (positions t)) (table-at-base chip table has) ∙ at-base chip (baseOf chip table)
 
 -- and as many as a plan's curve has bytes
-halves-length : (counts : List ℕ) → length (halves counts) ≡ length counts + length counts
+pub halves-length : (counts : List ℕ) → length (halves counts) ≡ length counts + length counts
 unfolding halves
 halves-length [] = refl
 halves-length (c ∷ cs) = omega (arith, halves-length cs)
@@ -49,6 +49,17 @@ body-of-plan Nct7802y plan S =
 body-of-plan F75373s plan S =
     omega (arith, length-append (plan .bounds) (halves (plan .counts)), halves-length (plan .counts), S .bounds, S .counts)
 body-of-plan Nct80 plan S = refl
+
+-- "the bytes used, 13 or 18": as many as a plan's record has
+pub record-of-plan : (chip : Chip) (plan : Plan) → Sized plan → length (recordOf chip plan) ≡ recordLength chip
+record-of-plan chip plan S = omega (arith, body-of-plan chip plan S)
+
+-- a plan that comes out of a body has its arrays' lengths, however short the body is
+pub decoded-sized : (chip : Chip) (table : ℕ) (rest : List ℕ) → Sized (decoded chip table rest)
+unfolding words
+decoded-sized Nct7802y table rest = record { temperatures = refl; duties = refl; bounds = refl; counts = refl }
+decoded-sized F75373s table rest = record { temperatures = refl; duties = refl; bounds = refl; counts = refl }
+decoded-sized Nct80 table rest = record { temperatures = refl; duties = refl; bounds = refl; counts = refl }
 
 -- a plan's body is decoded to the plan, with the other chip's values zero and whatever stands behind the body
 pub decode-encode : (chip : Chip) (plan : Plan) (rest : List ℕ) → Sized plan → chipOf (plan .chip) ≡ Known chip

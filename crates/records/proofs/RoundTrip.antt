@@ -26,7 +26,7 @@ use Rattle.records.specs.declared.Found.{Found}
 use Rattle.records.specs.Records.{body, bodyLength, recordLength, recordOf, encoded, chipIn, tableIn, bodyIn, noPlan, planIn, headerCutShort, wrongMark, bodyCutShort, recordChecks, roomChecks, writeChecks, bodyChecks, ownOf, own, Sized, Reads, Writes}
 use Rattle.records.proofs.Chips.{decoded-chip, decoded-table}
 use Rattle.records.proofs.Answers.{body-judged}
-use Rattle.records.proofs.Encoding.{body-of-plan, decode-encode, own-judged, encode-decode}
+use Rattle.records.proofs.Encoding.{body-of-plan, record-of-plan, decode-encode, own-judged, encode-decode}
 
 -- a record that is accepted
 pub record Whole (bytes : List ℕ) (chip : Chip) : Type 0 where
@@ -169,8 +169,7 @@ record-read : (chip : Chip) (plan : Plan) (rest : List ℕ) (q : Found) → Size
 record-read chip plan rest q S e accepts R =
     let bytes = recordOf chip plan ++ rest in
     let behind = body (planned chip plan) ++ rest in
-    let size = body-of-plan chip plan S in
-    let whole : bodyLength chip ≤ length behind = omega (arith, size, length-append (body (planned chip plan)) rest) in
+    let whole : bodyLength chip ≤ length behind = omega (arith, body-of-plan chip plan S, length-append (body (planned chip plan)) rest) in
     let back = decode-encode chip plan rest S e in
     let checks : first (recordChecks bytes) ≡ first (bodyChecks chip (plan .table) behind) = rw (le-ltb (length bytes) 4 (omega arith), e) in
     let none : first (recordChecks bytes) ≡ 0 =
@@ -179,7 +178,7 @@ record-read chip plan rest q S e accepts R =
     ∙ ap (λ (p : Plan). first (planChecks p)) back
     ∙ own-judged chip plan e
     ∙ accepts in
-    let used-bytes : whenKnown (chipOf (plan .chip)) recordLength 0 ≡ length (recordOf chip plan) = rw e (omega (arith, size)) in
+    let used-bytes : whenKnown (chipOf (plan .chip)) recordLength 0 ≡ length (recordOf chip plan) = rw e (sym (record-of-plan chip plan S)) in
     let plan-in : planIn bytes ≡ ownOf chip plan = rw e back in (
       tellsCount-injective (q .answer) (counted.Of (length (recordOf chip plan)))
           (R .answer ∙ sym (told-passed (recordChecks bytes) (whenKnown (chipOf (plan .chip)) recordLength 0) none) ∙ ap (λ (k : ℕ). (0, k)) used-bytes),

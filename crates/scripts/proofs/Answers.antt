@@ -22,11 +22,11 @@ use Rattle.refusal.specs.declared.Count.the-variants as counted
 use Rattle.cards.specs.declared.Named.{Named}
 use Rattle.cards.specs.declared.Named.the-variants.{Known, Unknown}
 use Rattle.cards.specs.Cards.{chipOf, whenKnown}
-use Rattle.images.specs.Images.{notAnImage, unconfirmed, identityChecks, Confirms}
+use Rattle.images.specs.Images.{identityChecks, Confirms}
 use Rattle.plans.specs.declared.Plan.{Plan}
 use Rattle.plans.specs.Plans.{planChecks}
 use Rattle.scripts.specs.declared.making.Script.{Script}
-use Rattle.scripts.specs.Scripts.{Pair, flat, played, scriptOf, scriptFor, scriptChecks, playChecks, Scripts, Plays}
+use Rattle.scripts.specs.Scripts.{Pair, flat, played, scriptOf, scriptFor, scriptChecks, startChecks, playChecks, Scripts, Plays}
 use Rattle.scripts.specs.Making.{writesOf, pairsOf, Describes}
 
 -- a refusal by the first checks is one by all of them
@@ -88,21 +88,18 @@ take-least count ws = by-size (leb count (length ws)) refl
         ap (λ (n : ℕ). take n ws) (min-eq-right past) ∙ take-all (length ws) ws (omega arith) ∙ sym (take-all count ws past)
 
 module _ (plan : Plan) (image : List ℕ) (count : ℕ) where
-  abbrev ownChecks : List Check
-  ownChecks = (notAnImage image, 8) ∷ (unconfirmed (plan .chip) image, 10) ∷ []
-
   abbrev writes : ℕ
   writes = min count (length (scriptFor plan))
 
   pub play-refused : (r : Refusal) → numberOf r ≡ first (planChecks plan) → Plays plan image count (counted.Refused r) image
   play-refused r e =
-      let all = still-refused r (planChecks plan) ownChecks e in
+      let all = still-refused r (planChecks plan) (startChecks plan image) e in
       record { answer = told-refused r (playChecks plan image) writes all; bytes = when-refused r _ image all }
 
   -- the chip of an accepted plan is known, so identity asks no more than play does
-  same-checks : first (planChecks plan) ≡ 0 → first (playChecks plan image) ≡ first (identityChecks (plan .chip) image)
+  pub same-checks : first (planChecks plan) ≡ 0 → first (playChecks plan image) ≡ first (identityChecks (plan .chip) image)
   same-checks e =
-      first-passed (planChecks plan) ownChecks refl e
+      first-passed (planChecks plan) (startChecks plan image) refl e
       ∙ sym (rw (all-passed (planChecks plan) refl e .0))
 
   pub play-unconfirmed : {r : Refusal} → first (planChecks plan) ≡ 0 → Confirms (plan .chip) image (outcome.Refused r)

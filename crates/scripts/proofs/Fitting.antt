@@ -2,7 +2,7 @@
 -- Assumes nothing.
 use Prim.Native.Nat.{ℕ, zero, suc, _+_, _<_, _^_, zero-le}
 use native.Mathlib.Omega.{arith}
-use mathlib.Core.Path.{_≡_, refl, sym, ap, _∙_}
+use mathlib.Core.Path.{_≡_, sym, ap, _∙_}
 use mathlib.Core.Bool.{So}
 use mathlib.Core.List.{List, [], _∷_, _++_, map}
 use lib.ListN.{length, length-append}
@@ -15,7 +15,8 @@ use Rattle.plans.specs.declared.Plan.{Plan}
 use Rattle.plans.specs.Curves.{halves}
 use Rattle.plans.specs.Orders.{Each, fulls, MoreDuty, LessCount}
 use Rattle.plans.specs.Plans.{planned}
-use Rattle.records.specs.Records.{Sized as Lengths}
+use Rattle.records.specs.Records.{Sized}
+use Rattle.records.proofs.Encoding.{halves-length}
 use Rattle.scripts.specs.Scripts.{writes, fullOf, scriptOf}
 use Rattle.scripts.specs.NeverSlower.{Within, Typed}
 use Rattle.scripts.proofs.Safe.{Fits}
@@ -49,19 +50,14 @@ within-fulls : (full : ℕ) (l : List ℕ) → full < 2 ^ 8 → Within 8 (fulls 
 within-fulls full [] h = tt
 within-fulls full (x ∷ l) h = (h, within-fulls full l h)
 
--- the halves of counts are bytes, twice as many
+-- the halves of counts are bytes
 within-halves : (cs : List ℕ) → Within 16 cs → Within 8 (halves cs)
 unfolding halves
 within-halves [] h = tt
 within-halves (c ∷ cs) h = (omega (arith, h .0), (omega arith, within-halves cs (h .1)))
 
-pub halves-length : (cs : List ℕ) → length (halves cs) ≡ length cs + length cs
-unfolding halves
-halves-length [] = refl
-halves-length (c ∷ cs) = omega (arith, halves-length cs)
-
 -- a chip's plan fills each of its tables
-pub settings-fill : (chip : Chip) (plan : Plan) → Lengths plan → So (hasTable chip (plan .table))
+pub settings-fill : (chip : Chip) (plan : Plan) → Sized plan → So (hasTable chip (plan .table))
     → length (tableOf chip (plan .table) .settings) ≡ length (planned chip plan .settings)
 settings-fill Nct7802y plan long has =
     ap (λ (t : Table). length (t .settings)) (table-at-base Nct7802y (plan .table) has)
@@ -70,7 +66,7 @@ settings-fill F75373s plan long has =
     ap (λ (t : Table). length (t .settings)) (table-at-base F75373s (plan .table) has) ∙ sym (long .bounds)
 settings-fill Nct80 plan long has = absurd (omega (arith, table-number Nct80 (plan .table) has .0, table-number Nct80 (plan .table) has .1))
 
-pub speeds-fill : (chip : Chip) (plan : Plan) → Lengths plan → So (hasTable chip (plan .table))
+pub speeds-fill : (chip : Chip) (plan : Plan) → Sized plan → So (hasTable chip (plan .table))
     → length (tableOf chip (plan .table) .speeds) ≡ length (planned chip plan .speeds)
 speeds-fill Nct7802y plan long has =
     ap (λ (t : Table). length (t .speeds)) (table-at-base Nct7802y (plan .table) has) ∙ sym (long .duties)

@@ -3,9 +3,12 @@ pub mod Safe
 pub mod Rules
 pub mod Played
 pub mod Fitting
-pub mod NeverSlower
 pub mod Pairs
 pub mod Turns
 pub mod Prepared
+pub mod Lengths
 pub mod Answers
+pub mod NeverRefused
+pub mod NeverSlower
+pub mod Typed
 pub mod Unique

@@ -11,6 +11,7 @@ use lib.ListN.{length, getD, take}
 use lib.Seq.{take-all}
 use Rattle.refusal.specs.Checks.{first}
 use Rattle.refusal.proofs.Passed.{all-passed}
+use Rattle.refusal.specs.declared.Count.{Count}
 use Rattle.refusal.specs.declared.Count.the-variants as counted
 use Rattle.cards.specs.declared.Chip.{Chip}
 use Rattle.cards.specs.declared.Chip.the-variants.{Nct7802y, F75373s, Nct80}
@@ -26,12 +27,13 @@ use Rattle.plans.specs.Plans.{Curve, planned, held, asks, AsksImage, AsksPlan}
 use Rattle.plans.proofs.Unique.{tellsAsked-injective}
 use Rattle.scripts.specs.Scripts.{Pair, writes, fullOf, script, scriptOf, played, playChecks, Plays}
 use Rattle.scripts.specs.Rules.{Rule}
-use Rattle.scripts.specs.NeverSlower.{Outside, Within, Typed, AsFast, slower, Demand3}
+use Rattle.scripts.specs.NeverSlower.{Outside, Within, Typed, AsFast, slower, Demand3, Safely}
 use Rattle.scripts.proofs.Memory.{Memory, puts, elsewhere-writes, elsewhere-append, cut-elsewhere}
 use Rattle.scripts.proofs.Safe.{curveIn, asked, never-slower, ends-planned}
 use Rattle.scripts.proofs.Rules.{ruleOf}
 use Rattle.scripts.proofs.Played.{bytesOf, played-length, played-puts, whole-take, all-left, all-right, table-apart}
 use Rattle.scripts.proofs.Fitting.{plan-fits, script-whole}
+use Rattle.scripts.proofs.NeverRefused.{play-accepted}
 
 -- what an accepted play knows of its plan and its image
 pub record Accepted (chip : Chip) (plan : Plan) (image : List ℕ) : Type 0 where
@@ -146,4 +148,14 @@ demand-3 {plan} {old} {new} {count} chip e typed bytes p =
           ∙ ap (λ (c : Curve). Speed (asks chip c t)) (ap (held (tableOf chip (plan .table))) stop ∙ held-at-last chip plan typed old bytes ok count (rw e at h))
           ∙ sym (plan-speed chip e (ok .has) planned);
       outside = λ k out. ap (λ (l : List ℕ). getD l k 0) stop ∙ kept-outside chip plan typed old bytes ok count k out;
+      as-long = long ∙ sym (ok .long);
+    }
+
+-- and no play of an accepted plan on a confirmed image is refused, so each of them does
+pub plays-safely : {plan : Plan} {old new : List ℕ} {count : ℕ} {r : Count} → Typed plan → Within 8 old → Plays plan old count r new
+    → Safely plan old count new
+plays-safely {plan} {old} {new} {count} typed bytes p =
+    record {
+      stop = λ chip e accepted confirmed.
+          demand-3 chip e typed bytes (subst (λ (s : Count). Plays plan old count s new) (play-accepted accepted confirmed p) p);
     }

@@ -78,7 +78,7 @@ whole-writes chip (p ∷ ps) [] f b = tt
 whole-writes chip (p ∷ ps) (x ∷ xs) f b = ((f .0, b .0), whole-writes chip ps xs (f .1) (b .1))
 
 -- from every place of a list to all of its entries
-all-of : (P : ℕ → Type 0) (xs : List ℕ) → ((k : ℕ) → k < length xs → P (getD xs k 0)) → All P xs
+pub all-of : (P : ℕ → Type 0) (xs : List ℕ) → ((k : ℕ) → k < length xs → P (getD xs k 0)) → All P xs
 all-of P [] h = tt
 all-of P (x ∷ xs) h = (h 0 (omega arith), all-of P xs (λ k l. h (suc k) (suc-le-suc l)))
 

@@ -24,11 +24,12 @@ use Rattle.cards.specs.Cards.{chipOf, whenKnown, hasTable, tableAt, baseOf}
 use Rattle.cards.proofs.Tables.{table-number, table-at-base}
 use Rattle.plans.specs.declared.Plan.{Plan}
 use Rattle.plans.specs.Plans.{Curve, planned, planChecks}
-use Rattle.records.specs.Records.{Sized as Lengths, header, body, recordOf, encoded, roomChecks, writeChecks, Writes}
+use Rattle.records.specs.Records.{Sized, header, body, recordOf, encoded, roomChecks, writeChecks, Writes}
+use Rattle.records.proofs.Encoding.{record-of-plan}
 use Rattle.scripts.specs.declared.making.Script.{Script}
 use Rattle.scripts.specs.Scripts.{Pair, fullOf, script, scriptOf, scriptFor}
-use Rattle.scripts.specs.Making.{writesOf, pairAt, pairsOf, Sized, laidOut, scriptIn, Describes, Prepares}
-use Rattle.scripts.proofs.Fitting.{settings-fill, speeds-fill, halves-length}
+use Rattle.scripts.specs.Making.{writesOf, pairAt, pairsOf, InImage, laidOut, scriptIn, Describes, Prepares}
+use Rattle.scripts.proofs.Fitting.{settings-fill, speeds-fill}
 use Rattle.scripts.proofs.Pairs.{nothing, rowTable, script-length, raised-at, body-at}
 
 -- a byte of the body, behind the header and before whatever follows the record
@@ -80,7 +81,7 @@ module _ (full base s v number table : ℕ) (curve : Curve) (tail : List ℕ) (e
       (λ k h. at-place k (subst (λ (n : ℕ). k < n) (script-length full base s v curve es ev) h))
 
 -- the script laid out from a plan's record, whatever follows the record
-describes-plan : (chip : Chip) (plan : Plan) (tail : List ℕ) → Lengths plan → So (hasTable chip (plan .table))
+pub describes-plan : (chip : Chip) (plan : Plan) (tail : List ℕ) → Sized plan → So (hasTable chip (plan .table))
     → Describes (laidOut chip (baseOf chip (plan .table)) (recordOf chip plan ++ tail)) (scriptOf chip plan)
 unfolding scriptOf
 describes-plan chip plan tail long has =
@@ -116,36 +117,35 @@ base-within F75373s (suc (suc zero)) t = omega arith
 base-within F75373s (suc (suc (suc number))) t = absurd (omega (arith, table-number F75373s (suc (suc (suc number))) t .1))
 base-within Nct80 number t = absurd (omega (arith, table-number Nct80 number t .0, table-number Nct80 number t .1))
 
-sized-laid : (chip : Chip) (base : ℕ) (bytes : List ℕ) → base + 14 < 256 → Sized (laidOut chip base bytes)
-sized-laid Nct7802y base bytes h = record { registers = omega arith; addresses = h }
-sized-laid F75373s base bytes h = record { registers = omega arith; addresses = h }
-sized-laid Nct80 base bytes h = record { registers = omega arith; addresses = h }
+laid-inside : (chip : Chip) (base : ℕ) (bytes : List ℕ) → base + 14 < 256 → InImage (laidOut chip base bytes)
+laid-inside Nct7802y base bytes h = record { registers = omega arith; addresses = h }
+laid-inside F75373s base bytes h = record { registers = omega arith; addresses = h }
+laid-inside Nct80 base bytes h = record { registers = omega arith; addresses = h }
 
-pub sized-in : (plan : Plan) (bytes : List ℕ) → Sized (scriptIn plan bytes)
-sized-in plan bytes = by-name (chipOf (plan .chip))
+in-image : (plan : Plan) (bytes : List ℕ) → InImage (scriptIn plan bytes)
+in-image plan bytes = by-name (chipOf (plan .chip))
   where
-    nowhere : Sized (laidOut Nct80 0 bytes)
-    nowhere = sized-laid Nct80 0 bytes (omega arith)
+    nowhere : InImage (laidOut Nct80 0 bytes)
+    nowhere = laid-inside Nct80 0 bytes (omega arith)
 
     by-place : (chip : Chip) (has : Bool) → hasTable chip (plan .table) ≡ has
-        → Sized (cond has (laidOut chip (baseOf chip (plan .table)) bytes) (laidOut Nct80 0 bytes))
-    by-place chip true t = sized-laid chip (baseOf chip (plan .table)) bytes (base-within chip (plan .table) t)
+        → InImage (cond has (laidOut chip (baseOf chip (plan .table)) bytes) (laidOut Nct80 0 bytes))
+    by-place chip true t = laid-inside chip (baseOf chip (plan .table)) bytes (base-within chip (plan .table) t)
     by-place chip false t = nowhere
 
     by-name : (named : Named)
-        → Sized (whenKnown named (λ chip. cond (hasTable chip (plan .table)) (laidOut chip (baseOf chip (plan .table)) bytes) (laidOut Nct80 0 bytes)) (laidOut Nct80 0 bytes))
+        → InImage (whenKnown named (λ chip. cond (hasTable chip (plan .table)) (laidOut chip (baseOf chip (plan .table)) bytes) (laidOut Nct80 0 bytes)) (laidOut Nct80 0 bytes))
     by-name (Known chip) = by-place chip (hasTable chip (plan .table)) refl
     by-name Unknown = nowhere
 
 -- no record is longer than 18 bytes
-record-within : (named : Named) (plan : Plan) → Lengths plan → length (whenKnown named (λ chip. recordOf chip plan) []) ≤ 18
-record-within (Known Nct7802y) plan long = simp length-append (omega (arith, long .temperatures, long .duties))
-record-within (Known F75373s) plan long =
-    simp length-append (omega (arith, long .bounds, long .counts, halves-length (plan .counts)))
-record-within (Known Nct80) plan long = omega arith
+record-within : (named : Named) (plan : Plan) → Sized plan → length (whenKnown named (λ chip. recordOf chip plan) []) ≤ 18
+record-within (Known Nct7802y) plan long = omega (arith, record-of-plan Nct7802y plan long)
+record-within (Known F75373s) plan long = omega (arith, record-of-plan F75373s plan long)
+record-within (Known Nct80) plan long = omega (arith, record-of-plan Nct80 plan long)
 record-within Unknown plan long = omega arith
 
-module _ {plan : Plan} {old bytes : List ℕ} {used : Count} (long : Lengths plan) (room : length old ≡ 18) (w : Writes plan old used bytes) where
+module _ {plan : Plan} {old bytes : List ℕ} {used : Count} (long : Sized plan) (room : length old ≡ 18) (w : Writes plan old used bytes) where
   -- there is room for the record, so only the plan's own checks count
   pub judged : tellsCount used .0 ≡ first (planChecks plan)
   judged = ap (λ (t : ℕ × ℕ). t .0) (w .answer) ∙ by-plan (first (planChecks plan)) refl
@@ -179,6 +179,6 @@ module _ {plan : Plan} {old bytes : List ℕ} {used : Count} (long : Lengths pla
   prepares ready s e q =
       record {
         answer = e ∙ judged;
-        sized = rw q (sized-in plan bytes);
+        inside = rw q (in-image plan bytes);
         pairs = λ z. rw q (prepared z);
       }

@@ -35,7 +35,7 @@ pairsOf s zero = []
 pairsOf s (suc n) = pairsOf s n ++ ((pairAt s n .address, pairAt s n .byte) ∷ [])
 
 -- a table of at most 14 registers that ends within the image
-pub record Sized (s : Script) : Type 0 where
+pub record InImage (s : Script) : Type 0 where
   pub registers : s .settings + s .speeds ≤ 14
   pub addresses : s .base + 14 < 256
 
@@ -62,5 +62,5 @@ pub record Describes (s : Script) (pairs : List Pair) : Type 0 where
 
 pub record Prepares (plan : Plan) (r : Prepared) : Type 0 where
   pub answer : tells (r .ready) ≡ first (planChecks plan)
-  pub sized : Sized (r .script)
+  pub inside : InImage (r .script)
   pub pairs : first (planChecks plan) ≡ 0 → Describes (r .script) (scriptFor plan)

@@ -5,22 +5,26 @@ use Prim.Native.Nat.{ℕ, _≤_, _<_, _^_, min, max}
 use mathlib.Core.Path.{_≡_}
 use mathlib.Core.List.{List, [], _∷_}
 use lib.ListN.{length, getD}
+use Rattle.refusal.specs.Checks.{first}
 use Rattle.cards.specs.declared.Chip.{Chip}
 use Rattle.cards.specs.declared.Chip.the-variants.{Nct7802y, F75373s, Nct80}
+use Rattle.cards.specs.declared.Named.the-variants.{Known}
 use Rattle.cards.specs.Rows.{positions}
-use Rattle.cards.specs.Cards.{tableOf}
+use Rattle.cards.specs.Cards.{chipOf, tableOf}
+use Rattle.images.specs.Images.{identityChecks}
 use Rattle.plans.specs.declared.Plan.{Plan}
 use Rattle.plans.specs.declared.Asked.{Asked}
 use Rattle.plans.specs.declared.Asked.the-variants.{Speed, Refused}
-use Rattle.plans.specs.Plans.{AsksImage, AsksPlan}
+use Rattle.plans.specs.Orders.{MoreDuty, LessCount}
+use Rattle.plans.specs.Plans.{planChecks, AsksImage, AsksPlan}
 use Rattle.records.specs.Records.{Sized}
 use Rattle.scripts.specs.Scripts.{scriptFor}
 
 -- "More duty is faster; a smaller count is faster": a is at least as fast as b
 abbrev pub AsFast : Chip → ℕ → ℕ → Type 0
-AsFast Nct7802y a b = b ≤ a
-AsFast F75373s a b = a ≤ b
-AsFast Nct80 a b = a ≤ b
+AsFast Nct7802y a b = MoreDuty a b
+AsFast F75373s a b = LessCount a b
+AsFast Nct80 a b = LessCount a b
 
 -- the slower of two speeds
 abbrev pub slower : Chip → ℕ → ℕ → ℕ
@@ -72,3 +76,11 @@ pub record Demand3 (chip : Chip) (plan : Plan) (old : List ℕ) (count : ℕ) (n
       → stop ≡ planned
   -- "At any stop every byte outside that fan table is as before."
   pub outside : (k : ℕ) → Outside k (positions (tableOf chip (plan .table))) → getD new k 0 ≡ getD old k 0
+  -- and there are as many bytes as before
+  pub as-long : length new ≡ length old
+
+-- What `scripts::play` promises of a stop, beside its answer and its bytes: "Take any accepted plan and any starting image whose identity its
+-- chip confirms. Play the plan's script and stop after any number of whole writes, from none to all."
+pub record Safely (plan : Plan) (old : List ℕ) (count : ℕ) (new : List ℕ) : Type 0 where
+  pub stop : (chip : Chip) → chipOf (plan .chip) ≡ Known chip → first (planChecks plan) ≡ 0 → first (identityChecks (plan .chip) old) ≡ 0
+      → Demand3 chip plan old count new

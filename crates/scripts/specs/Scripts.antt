@@ -43,6 +43,12 @@ script full table curve =
 unfoldable pub scriptOf : Chip → Plan → List Pair
 scriptOf chip plan = script (fullOf chip) (tableOf chip (plan .table)) (planned chip plan)
 
+-- "13 writes"; "24 writes"; chip 3 has no fan table, so none
+abbrev pub scriptLength : Chip → ℕ
+scriptLength Nct7802y = 13
+scriptLength F75373s = 24
+scriptLength Nct80 = 0
+
 -- the script's bytes, address first
 abbrev pub flat : List Pair → List ℕ
 flat [] = []
@@ -60,9 +66,12 @@ scriptFor plan = whenKnown (chipOf (plan .chip)) (λ c. scriptOf c plan) []
 abbrev pub scriptChecks : Plan → List ℕ → List Check
 scriptChecks plan out = planChecks plan ++ ((ltb (length out) (2 * length (scriptFor plan)), 9) ∷ [])
 
--- "playing a script checks 3, 4, 6, 7, 8, 10 and no 9"
+-- "playing a script checks 3, 4, 6, 7, 8, 10 and no 9": the plan, then the starting image
+abbrev pub startChecks : Plan → List ℕ → List Check
+startChecks plan image = (notAnImage image, 8) ∷ (unconfirmed (plan .chip) image, 10) ∷ []
+
 abbrev pub playChecks : Plan → List ℕ → List Check
-playChecks plan image = planChecks plan ++ ((notAnImage image, 8) ∷ (unconfirmed (plan .chip) image, 10) ∷ [])
+playChecks plan image = planChecks plan ++ startChecks plan image
 
 -- what `scripts::script` promises: "The answer says how many writes"; "An output longer than the result keeps its tail."
 pub record Scripts (plan : Plan) (old : List ℕ) (r : Count) (new : List ℕ) : Type 0 where

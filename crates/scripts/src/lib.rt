@@ -8,6 +8,7 @@ use refusal::Count;
 use refusal::Outcome;
 use refusal::Refusal;
 ghost use Rattle.scripts.specs.Scripts.{Scripts, Plays};
+ghost use Rattle.scripts.specs.NeverSlower.{Safely};
 
 // Writes a plan's script to the front of the buffer, as pairs of address and byte.
 pub fn script(plan: Plan, out: &mut [u8]) -> Count
@@ -32,6 +33,7 @@ pub fn script(plan: Plan, out: &mut [u8]) -> Count
 // Makes the first writes of a plan's script on the image, as many as `count` says, or all. Identity is looked at once, before the first write.
 pub fn play(plan: Plan, image: &mut [u8], count: usize) -> Count
     ensures { λ r. ⌜ Plays plan (now (image .entry)) count r (now (image .exit)) ⌝ }
+    ensures { λ _. ⌜ Safely plan (now (image .entry)) count (now (image .exit)) ⌝ }
 {
     let prepared = making::prepare(plan);
     let ready = prepared.ready;

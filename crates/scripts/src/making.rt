@@ -7,7 +7,7 @@ use refusal::Count;
 use refusal::Outcome;
 ghost use Prim.Native.Nat.{_+_, _<_};
 ghost use mathlib.Core.Path.{_≡_};
-ghost use Rattle.scripts.specs.Making.{pairAt, writesOf, Sized, scriptIn, Lays, Prepares};
+ghost use Rattle.scripts.specs.Making.{pairAt, writesOf, InImage, scriptIn, Lays, Prepares};
 
 // Where a table begins, how many settings and speeds it has, the full byte, and the plan's record, whose body stands from place 4 on.
 pub struct Script {
@@ -30,7 +30,7 @@ pub struct Prepared {
 
 impl Script {
     pub(crate) fn writes(self) -> usize
-        requires { ⌜ Sized self ⌝ }
+        requires { ⌜ InImage self ⌝ }
         ensures { λ r. ⌜ r ≡ writesOf self ⌝ }
     {
         self.speeds + (self.settings + self.speeds)
@@ -38,7 +38,7 @@ impl Script {
 
     // The pair of a place.
     pub(crate) fn pair(self, k: usize) -> Pair
-        requires { ⌜ Sized self ⌝ }
+        requires { ⌜ InImage self ⌝ }
         requires { ⌜ k < writesOf self ⌝ }
         ensures { λ r. ⌜ r ≡ pairAt self k ⌝ }
     {

@@ -2,8 +2,8 @@
 -- Assumes nothing.
 use Prim.Native.Nat.{ℕ, _+_, _*_, _≤_, _<_}
 use native.Mathlib.Omega.{arith}
-use mathlib.Core.Path.{_≡_, refl, ap}
-use mathlib.Core.Bool.{true, false, So, true≢false}
+use mathlib.Core.Path.{_≡_, refl}
+use mathlib.Core.Bool.{true, false, true≢false}
 use mathlib.Core.List.{List}
 use borrow.Author.Tests.{ltb-false, not-false}
 use lib.Dec.{ltb}
@@ -14,14 +14,14 @@ use Rattle.cards.specs.declared.Chip.{Chip}
 use Rattle.cards.specs.declared.Chip.the-variants.{Nct7802y, F75373s, Nct80}
 use Rattle.cards.specs.declared.Named.{Named}
 use Rattle.cards.specs.declared.Named.the-variants.{Known, Unknown}
-use Rattle.cards.specs.Rows.{Table}
 use Rattle.cards.specs.Cards.{chipOf, hasTable}
-use Rattle.cards.proofs.Tables.{table-number, table-at-base}
+use Rattle.cards.proofs.Tables.{table-number}
 use Rattle.plans.specs.declared.Plan.{Plan}
-use Rattle.plans.specs.Curves.{halves, words}
-use Rattle.plans.specs.Plans.{planned, decoded, temperaturesOut, speedsOut, planChecks}
+use Rattle.plans.specs.Plans.{decoded, temperaturesOut, speedsOut, planChecks}
 use Rattle.records.specs.Records.{bodyLength, recordLength, recordChecks, chipIn, tableIn, bodyIn, planIn}
-use Rattle.scripts.specs.Scripts.{fullOf, script, scriptOf, scriptFor}
+use Rattle.records.proofs.Encoding.{decoded-sized}
+use Rattle.scripts.specs.Scripts.{scriptFor}
+use Rattle.scripts.proofs.Lengths.{script-of-plan}
 use Rattle.translation.specs.Text.{refusalIn, usedIn}
 use Rattle.translation.specs.Parts.{Accepts}
 
@@ -34,16 +34,6 @@ pub record Accepted (bytes : List ℕ) (used : ℕ) (plan : Plan) : Type 0 where
   pub table : plan .table < 10
   pub short : 34 + 6 * length (scriptFor plan) ≤ 10 * used
 
-thirteen : (table : ℕ) (body : List ℕ) → So (hasTable Nct7802y table) → length (scriptFor (decoded Nct7802y table body)) ≡ 13
-unfolding scriptOf
-thirteen table body has =
-    ap (λ (t : Table). length (script (fullOf Nct7802y) t (planned Nct7802y (decoded Nct7802y table body)))) (table-at-base Nct7802y table has)
-
-twenty-four : (table : ℕ) (body : List ℕ) → So (hasTable F75373s table) → length (scriptFor (decoded F75373s table body)) ≡ 24
-unfolding scriptOf halves words
-twenty-four table body has =
-    ap (λ (t : Table). length (script (fullOf F75373s) t (planned F75373s (decoded F75373s table body)))) (table-at-base F75373s table has)
-
 judged : (chip : Chip) (table : ℕ) (body : List ℕ) → hasTable chip table ≡ true → temperaturesOut (decoded chip table body) ≡ false
     → speedsOut (decoded chip table body) ≡ false → first (planChecks (decoded chip table body)) ≡ 0
 judged Nct7802y table body has t s = rw (has, t, s)
@@ -53,7 +43,8 @@ judged Nct80 table body has t s = rw has
 known : (chip : Chip) (bytes : List ℕ) (table : ℕ) → hasTable chip table ≡ true → bodyLength chip ≤ length (bodyIn bytes)
     → first (planChecks (decoded chip table (bodyIn bytes))) ≡ 0 → Accepted bytes (recordLength chip) (decoded chip table (bodyIn bytes))
 known Nct7802y bytes table has h e =
-    let writes = thirteen table (bodyIn bytes) has in
+    let plan = decoded Nct7802y table (bodyIn bytes) in
+    let writes = script-of-plan Nct7802y plan (decoded-sized Nct7802y table (bodyIn bytes)) has in
     record {
       whole = omega (arith, length-drop 4 bytes);
       least = omega arith;
@@ -63,7 +54,8 @@ known Nct7802y bytes table has h e =
       short = omega arith;
     }
 known F75373s bytes table has h e =
-    let writes = twenty-four table (bodyIn bytes) has in
+    let plan = decoded F75373s table (bodyIn bytes) in
+    let writes = script-of-plan F75373s plan (decoded-sized F75373s table (bodyIn bytes)) has in
     record {
       whole = omega (arith, length-drop 4 bytes);
       least = omega arith;

@@ -3,23 +3,16 @@
 use Rattle.refusal.specs.declared.Outcome.the-variants as outcome
 use Rattle.refusal.specs.declared.Count.{Count}
 use Rattle.refusal.specs.Answers.{tellsCount}
-use Rattle.records.specs.Records.{Sized as Lengths}
+use Rattle.records.specs.Records.{Sized}
 use Rattle.scripts.proofs.Prepared.{prepares}
-use lib.ListN.{length-map}
-use mathlib.Core.Path.{refl, sym, ap, _∙_}
+use Rattle.scripts.proofs.Typed.{plan-typed}
+use mathlib.Core.Path.{refl, sym, ap}
 use borrow.Author.Needs.{needs}
 use Rattle.scripts.proofs.making.prepare.Statement.{statement}
 use Rattle.scripts.proofs.making.prepare.Tie as tie
 
-plan-lengths : (c : tie.Start) → Lengths (c .args .plan)
-plan-lengths c =
-    let fields = c .good .0 .1 .1 .1 .1 in
-    record {
-      temperatures = sym (length-map (c .args .plan .temperatures) (λ v. v)) ∙ fields .0 .1 .0 .1;
-      duties = sym (length-map (c .args .plan .duties) (λ v. v)) ∙ fields .1 .1 .0 .1 .0 .1;
-      bounds = sym (length-map (c .args .plan .bounds) (λ v. v)) ∙ fields .1 .1 .1 .0 .1 .0 .1;
-      counts = sym (length-map (c .args .plan .counts) (λ v. v)) ∙ fields .1 .1 .1 .1 .0 .1 .0 .1;
-    }
+plan-lengths : (c : tie.Start) → Sized (c .args .plan)
+plan-lengths c = plan-typed (c .args .plan) _ (c .good .0) .sized
 
 slice-aggregate-write : tie.Need-slice-aggregate-write
 slice-aggregate-write c = search needs

@@ -1,0 +1,34 @@
+-- A script has as many writes as the paper says: it is described, pair by pair, by what is laid out from the plan's record, whose parts are counted.
+-- Assumes nothing.
+use Prim.Native.Nat.{ℕ}
+use mathlib.Core.Path.{_≡_, refl, sym, ap, _∙_}
+use mathlib.Core.Bool.{So}
+use mathlib.Core.List.{List, []}
+use borrow.Author.Tests.{not-false}
+use lib.ListN.{length}
+use Rattle.refusal.specs.Checks.{first}
+use Rattle.refusal.specs.declared.Count.the-variants as counted
+use Rattle.refusal.proofs.Passed.{all-passed, when-passed}
+use Rattle.cards.specs.declared.Chip.{Chip}
+use Rattle.cards.specs.declared.Chip.the-variants.{Nct7802y, F75373s, Nct80}
+use Rattle.cards.specs.declared.Named.the-variants.{Known}
+use Rattle.cards.specs.Cards.{chipOf, hasTable}
+use Rattle.plans.specs.declared.Plan.{Plan}
+use Rattle.records.specs.Records.{Sized}
+use Rattle.scripts.specs.Scripts.{scriptOf, scriptLength, scriptFor, scriptChecks, Scripts}
+use Rattle.scripts.proofs.Prepared.{describes-plan}
+
+-- "13 writes", "24 writes"
+pub script-of-plan : (chip : Chip) (plan : Plan) → Sized plan → So (hasTable chip (plan .table)) → length (scriptOf chip plan) ≡ scriptLength chip
+script-of-plan Nct7802y plan S has = sym (describes-plan Nct7802y plan [] S has .writes)
+script-of-plan F75373s plan S has = sym (describes-plan F75373s plan [] S has .writes)
+script-of-plan Nct80 plan S has = sym (describes-plan Nct80 plan [] S has .writes)
+
+-- "The answer says how many writes."
+pub script-counts : {plan : Plan} {out new : List ℕ} {n : ℕ} (chip : Chip) → chipOf (plan .chip) ≡ Known chip → Sized plan
+    → Scripts plan out (counted.Of n) new → n ≡ scriptLength chip
+script-counts {plan} {out} {new} {n} chip e S p =
+    let none : first (scriptChecks plan out) ≡ 0 = sym (ap (λ (t : ℕ × ℕ). t .0) (p .answer)) in
+    let has = not-false (hasTable chip (plan .table)) (rw e at (all-passed (scriptChecks plan out) refl none .1 .0)) in
+    let all : n ≡ length (scriptFor plan) = ap (λ (t : ℕ × ℕ). t .1) (p .answer) ∙ sym (when-passed (length (scriptFor plan)) 0 none) in
+    (rw e at all) ∙ script-of-plan chip plan S has
