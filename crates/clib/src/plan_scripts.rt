@@ -1,6 +1,8 @@
 // A plan's byte writes, and playing them on an image.
 use crate::bodies;
 use crate::packing;
+ghost use Rattle.scripts.specs.NeverSlower.{Safely};
+ghost use Rattle.clib.specs.Bodies.{planFrom};
 ghost use Rattle.clib.specs.Packed.{YkScript, YkPlay};
 
 #[no_mangle]
@@ -15,6 +17,7 @@ pub extern "C" fn yk_script(chip: u8, table: u8, body: &[u8], out: &mut [u8]) ->
 #[no_mangle]
 pub extern "C" fn yk_play(chip: u8, table: u8, body: &[u8], image: &mut [u8], count: usize) -> u64
     ensures { λ r. ⌜ YkPlay chip table (now (body .entry)) (now (image .entry)) count r (now (image .exit)) ⌝ }
+    ensures { λ _. ⌜ Safely (planFrom chip table (now (body .entry))) (now (image .entry)) count (now (image .exit)) ⌝ }
 {
     let plan = bodies::plan_from(chip, table, body);
     let made = scripts::play(plan, image, count);
