@@ -11,7 +11,7 @@ import sys
 sys.dont_write_bytecode = True
 
 from curves import curves
-from images import identity_bits, image_calls, rows
+from images import identity_bits, image_calls, rows, stored
 from readings import temperatures, voltages
 from records import records
 from scripts import scripts
@@ -21,6 +21,7 @@ if __name__ == "__main__":
     sys.stdout.reconfigure(newline="\n")
     rows()
     image_calls()
+    stored()
     identity_bits()
     temperatures()
     voltages()

@@ -34,6 +34,17 @@ def image_calls():
                 print("%s chip %d length %d %s" % (call, chip, length, image_answer(call, chip, length)))
 
 
+def stored():
+    """A byte written to a register that holds 5Ah: bits 0 and 1 of 34h of chip 2 clear on one, 54h of chip 1 has six writable bits, 3Eh of chip 3 none."""
+    held = {(2, 0x34, 0x00): 0x5A, (2, 0x34, 0x01): 0x5A, (2, 0x34, 0x02): 0x58, (2, 0x34, 0xFF): 0x58,
+            (1, 0x54, 0x00): 0x40, (1, 0x54, 0xFF): 0x7F, (3, 0x3E, 0x00): 0x5A, (3, 0x3E, 0xFF): 0x5A}
+    for (chip, address, byte), holds in held.items():
+        image = [0x5A] * 256
+        write(chip, image, address, byte)
+        assert image == [0x5A] * address + [holds] + [0x5A] * (255 - address)
+        print("stored chip %d %02X write %02X byte %02X" % (chip, address, byte, holds))
+
+
 def identity_bits():
     """Identity sees the bits that the paper names: 8 + 8 + 4 + 5 + 6 of chip 1, 8 + 8 + 8 + 8 of chip 2."""
     for chip, bits in ((1, 31), (2, 32)):

@@ -5,9 +5,10 @@ from readings import WORDS
 class Watch:
     """The alarm watch; each step is printed, and answers whether pending is on."""
 
-    def __init__(self, behaviour):
+    def __init__(self, behaviour, silent=False):
         self.behaviour, self.hot, self.pending = behaviour, False, False
-        self.show("new")
+        if not silent:
+            self.show("new")
 
     def show(self, what):
         output = self.hot if self.behaviour == "comparator" else self.pending
@@ -82,6 +83,16 @@ def watch_second_alarm(behaviour):
     watch.sample(1296)
 
 
+def watch_recorded(behaviour):
+    """The samples in turn, shown once at the end; 2048 is refused and changes nothing."""
+    samples = (1296, 1248, 2048, 1199, 1281)
+    watch = Watch(behaviour, silent=True)
+    for steps in samples:
+        if steps in WORDS[12]:
+            watch.take(steps, 80, 75)
+    watch.show("limits 80 75 run " + " ".join("%d" % steps for steps in samples))
+
+
 def watches():
     for behaviour in PENDING:
         watch_figure(behaviour)
@@ -89,3 +100,4 @@ def watches():
         watch_at_the_ends(behaviour)
         watch_limits_crossed(behaviour)
         watch_second_alarm(behaviour)
+        watch_recorded(behaviour)

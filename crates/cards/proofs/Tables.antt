@@ -14,7 +14,7 @@ use Rattle.cards.specs.declared.Chip.the-variants.{Nct7802y, F75373s, Nc
 use Rattle.cards.specs.declared.Place.{Place}
 use Rattle.cards.specs.declared.Place.the-variants.{At, Nowhere}
 use Rattle.cards.specs.Rows.{Table, positions}
-use Rattle.cards.specs.Cards.{rowOf, tablesOf, hasTable, tableOf, tableAt, baseOf, Places}
+use Rattle.cards.specs.Cards.{rowOf, tablesOf, hasTable, tableOf, tableFrom, baseOf, Places}
 use Rattle.cards.specs.Nct7802y as nct7802y
 use Rattle.cards.specs.F75373s as f75373s
 
@@ -108,7 +108,7 @@ module _ (chip : Chip) (number : ℕ) (has : So (hasTable chip number)) where
       (and-eq-true-iff (every (free chip) (positions (tableOf chip number))) (distinct (positions (tableOf chip number))) .0 tested-table .1) j k h l e
 
 -- a chip's tables differ only in where they begin
-pub table-at-base : (chip : Chip) (number : ℕ) → So (hasTable chip number) → tableOf chip number ≡ tableAt chip (baseOf chip number)
+pub table-at-base : (chip : Chip) (number : ℕ) → So (hasTable chip number) → tableOf chip number ≡ tableFrom chip (baseOf chip number)
 table-at-base Nct7802y zero t = absurd (false≢true t)
 table-at-base Nct7802y (suc zero) t = refl
 table-at-base Nct7802y (suc (suc zero)) t = refl

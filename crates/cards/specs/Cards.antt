@@ -70,10 +70,10 @@ abbrev pub tableOf : Chip → ℕ → Table
 tableOf chip number = getD (tablesOf chip) (number - 1) (record { settings = []; speeds = [] })
 
 -- the table of a chip that begins at a base
-abbrev pub tableAt : Chip → ℕ → Table
-tableAt Nct7802y base = nct7802y.table base
-tableAt F75373s base = f75373s.table base
-tableAt Nct80 base = record { settings = []; speeds = [] }
+abbrev pub tableFrom : Chip → ℕ → Table
+tableFrom Nct7802y base = nct7802y.table base
+tableFrom F75373s base = f75373s.table base
+tableFrom Nct80 base = record { settings = []; speeds = [] }
 
 -- where a chip's table begins: at its first setting
 abbrev pub baseOf : Chip → ℕ → ℕ

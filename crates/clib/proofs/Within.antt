@@ -20,11 +20,11 @@ use Rattle.cards.specs.Nct7802y as nct7802y
 use Rattle.cards.specs.F75373s as f75373s
 use Rattle.cards.specs.Cards.{chipOf, whenKnown, tableOf}
 use Rattle.plans.specs.declared.Plan.{Plan}
-use Rattle.plans.specs.Curves.{points, words}
+use Rattle.plans.specs.Curves.{points}
 use Rattle.plans.specs.Orders.{fulls}
 use Rattle.plans.specs.Plans.{planned, decoded}
-use Rattle.records.specs.Records.{Sized, roomChecks, writeChecks, recordOf, encoded, header, body, bodyLength, recordLength, chipIn, Writes}
-use Rattle.records.proofs.Encoding.{body-of-plan}
+use Rattle.records.specs.Records.{Sized, roomChecks, writeChecks, recordOf, encoded, bodyLength, recordLength, chipIn, Writes}
+use Rattle.records.proofs.Encoding.{record-of-plan, decoded-sized}
 use Rattle.scripts.specs.Scripts.{scriptOf, scriptFor, fullOf, scriptChecks, playChecks, Scripts, Plays}
 use Rattle.translation.specs.Text.{textOf, Translates}
 use Rattle.translation.proofs.Bound.{text-short}
@@ -40,10 +40,7 @@ told-within {t} checks value bound h e = rw (ap (λ (u : ℕ × ℕ). u .1) e) (
 
 -- the arrays of a plan that crossed are as long as their types say
 named-sized : (chip table : ℕ) (bytes : List ℕ) (named : Named) → Sized (whenKnown named (λ c. decoded c table bytes) (unnamed chip table))
-unfolding words
-named-sized chip table bytes (Known Nct7802y) = record { temperatures = refl; duties = refl; bounds = refl; counts = refl }
-named-sized chip table bytes (Known F75373s) = record { temperatures = refl; duties = refl; bounds = refl; counts = refl }
-named-sized chip table bytes (Known Nct80) = record { temperatures = refl; duties = refl; bounds = refl; counts = refl }
+named-sized chip table bytes (Known c) = decoded-sized c table bytes
 named-sized chip table bytes Unknown = record { temperatures = refl; duties = refl; bounds = refl; counts = refl }
 
 plan-sized : (chip table : ℕ) (bytes : List ℕ) → Sized (planFrom chip table bytes)
@@ -56,8 +53,7 @@ body-short F75373s = omega arith
 body-short Nct80 = omega arith
 
 encoded-short : (named : Named) (plan : Plan) → Sized plan → length (whenKnown named (λ chip. recordOf chip plan) []) ≤ 18
-encoded-short (Known chip) plan S =
-    omega (arith, length-append (header (plan .chip) (plan .table)) (body (planned chip plan)), body-of-plan chip plan S, body-short chip)
+encoded-short (Known chip) plan S = omega (arith, record-of-plan chip plan S, body-short chip)
 encoded-short Unknown plan S = omega arith
 
 record-within : (chip table : ℕ) (bytes : List ℕ) → length (encoded (planFrom chip table bytes)) ≤ 18

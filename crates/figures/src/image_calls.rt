@@ -68,8 +68,8 @@ fn write(chip: u8, image: &mut [u8]) {
     }
 }
 
-fn read(chip: u8, image: &[u8]) {
-    match images::read(chip, image, 0x91) {
+fn read(chip: u8, image: &[u8], address: u8) {
+    match images::read(chip, image, address) {
         ByteRead::Refused(r) => after_refusal(r, image),
         ByteRead::Byte(b) => {
             print::text(b" byte ");
@@ -107,7 +107,7 @@ fn name(call: u8) {
 fn answer(call: u8, chip: u8, image: &mut [u8]) {
     match call {
         0 => write(chip, image),
-        1 => read(chip, image),
+        1 => read(chip, image, 0x91),
         2 => reset(chip, image),
         _ => identity(chip, image),
     }
@@ -146,6 +146,32 @@ pub fn print_all() {
     for call in 0..4u8 {
         chips(call);
     }
+}
+
+// A byte written to a register that holds 5Ah, and what it then holds.
+fn stored(chip: u8, address: u8, byte: u8) {
+    let mut image = [FILL; 256];
+    images::write(chip, &mut image, address, byte);
+    print::text(b"stored chip ");
+    print::decimal(chip as u64);
+    print::text(b" ");
+    print::byte(address);
+    print::text(b" write ");
+    print::byte(byte);
+    read(chip, &image, address);
+    print::text(b"\n");
+}
+
+// Bits 0 and 1 of 34h of chip 2 clear on one, 54h of chip 1 has six writable bits, 3Eh of chip 3 none.
+pub fn print_stored() {
+    stored(2, 0x34, 0x00);
+    stored(2, 0x34, 0x01);
+    stored(2, 0x34, 0x02);
+    stored(2, 0x34, 0xFF);
+    stored(1, 0x54, 0x00);
+    stored(1, 0x54, 0xFF);
+    stored(3, 0x3E, 0x00);
+    stored(3, 0x3E, 0xFF);
 }
 
 // 1 where the image is not confirmed.

@@ -14,6 +14,7 @@ mod watch_lines;
 fn main() {
     rows::print_all();
     image_calls::print_all();
+    image_calls::print_stored();
     image_calls::print_identity_bits(1);
     image_calls::print_identity_bits(2);
     readings_lines::print_all();

@@ -132,12 +132,22 @@ fn second_alarm(behaviour: Behaviour) {
     sample(watch, 1296, 80, 75);
 }
 
+// A run of recorded samples is the same samples in turn; the one that is refused changes nothing, and the run goes on.
+fn recorded(behaviour: Behaviour) {
+    let samples: [i16; 5] = [1296, 1248, 2048, 1199, 1281];
+    let watch = Watch::new(behaviour).run(&samples, 80, 75);
+    begin(watch);
+    print::text(b" limits 80 75 run 1296 1248 2048 1199 1281");
+    end(watch);
+}
+
 fn histories(behaviour: Behaviour) {
     figure(behaviour);
     at_the_limits(behaviour);
     at_the_ends(behaviour);
     limits_crossed(behaviour);
     second_alarm(behaviour);
+    recorded(behaviour);
 }
 
 pub fn print_all() {

@@ -26,6 +26,6 @@ stored row old new = storedBits 8 (row .writable) (row .clears) old new
 unfoldable pub storedAt : Row → ℕ → ℕ → List ℕ → List ℕ
 storedAt row position byte image = set image position (stored row (getD image position 0) byte)
 
--- where a bus write lands: the position is the address
+-- Where a bus write lands: the position is the address. Chip 1: "its image is bank 0, which counts as selected whatever 00h holds".
 abbrev pub written : Chip → ℕ → ℕ → List ℕ → List ℕ
 written chip address byte image = storedAt (rowOf chip address) address byte image

@@ -9,7 +9,7 @@ use mathlib.Core.List.{List, [], _∷_, map}
 use lib.ListN.{length, getD, take, drop, length-drop}
 use lib.Seq.{drop-cons, take-all, take-at, getD-at, getD-drop}
 use Rattle.cards.specs.Rows.{Table, from}
-use Rattle.cards.specs.Cards.{hasTable, tableOf, tableAt, baseOf}
+use Rattle.cards.specs.Cards.{hasTable, tableOf, tableFrom, baseOf}
 use Rattle.cards.specs.declared.Chip.{Chip}
 use Rattle.cards.specs.declared.Chip.the-variants.{Nct7802y, F75373s, Nct80}
 use Rattle.cards.proofs.Tables.{table-at-base}
@@ -47,7 +47,7 @@ planned-count plan t = rw (words-halves (plan .counts))
 
 -- the body that begins at a base asks what the registers of the table there ask
 base-asks : (chip : Chip) (table base : ℕ) (image : List ℕ) (t : ℕ)
-    → asks chip (planned chip (decoded chip table (drop base image))) t ≡ asks chip (held (tableAt chip base) image) t
+    → asks chip (planned chip (decoded chip table (drop base image))) t ≡ asks chip (held (tableFrom chip base) image) t
 base-asks Nct7802y table base image t =
     ap (λ (curve : Curve). asks Nct7802y curve t)
     (λ i. record { settings = (shifted image base 0 5 ∙ ap (λ (first : ℕ). bytesAt image (from first 5)) (add-zero base)) i; speeds = shifted image base 5 4 i })
@@ -68,4 +68,4 @@ pub body-asks : (chip : Chip) (table base : ℕ) (image : List ℕ) (t : ℕ) �
 body-asks chip table base image t has e =
     ap (λ (body : List ℕ). asks chip (planned chip (decoded chip table body)) t) (to-the-end image base)
     ∙ base-asks chip table base image t
-    ∙ ap (λ (registers : Table). asks chip (held registers image) t) (ap (tableAt chip) e ∙ sym (table-at-base chip table has))
+    ∙ ap (λ (registers : Table). asks chip (held registers image) t) (ap (tableFrom chip) e ∙ sym (table-at-base chip table has))

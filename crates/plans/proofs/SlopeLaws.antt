@@ -44,7 +44,7 @@ module _ (a b : ℕ) where
 pub mean-at-most : (a b d e most t : ℕ) → a < t → t ≤ b → d ≤ most → e ≤ most → mean (a, d) (b, e) t ≤ most
 mean-at-most a b d e most t p q h k = omega (arith, mean-faster a b most most d e t h k, mean-level a b most t p q)
 
--- "the asked speed is at least as fast when every speed register is": above a point ..
+-- The asked duty is at least as fast where every speed register is: above a point ..
 above-faster : (ts ds es : List ℕ) (a d e t : ℕ) → e ≤ d → Each MoreDuty ds es
     → above (a, e) (points ts es) t ≤ above (a, d) (points ts ds) t
 unfolding above

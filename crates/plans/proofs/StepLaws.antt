@@ -33,7 +33,7 @@ counts-faster bounds (x ∷ c) [] t e = absurd e
 counts-faster [] (x ∷ c) (y ∷ d) t e = e .0
 counts-faster (b ∷ bounds) (x ∷ c) (y ∷ d) t e = both-ways (ltb b t) _ _ _ _ (e .0) (counts-faster bounds c d t (e .1))
 
--- "the asked speed is at least as fast when every speed register is", for any settings
+-- The asked count is at least as fast where every speed register is, for any settings.
 pub steps-faster : (bounds v w : List ℕ) (t : ℕ) → Each LessCount v w
     → LessCount (steps bounds (words v) t) (steps bounds (words w) t)
 steps-faster bounds v w t e = counts-faster bounds (words v) (words w) t (words-faster v w e)

@@ -76,12 +76,13 @@ decoded Nct80 table body =
       counts = zeros 5;
     }
 
--- n temperatures, then critical; "T from -128 to 127"
+-- n temperatures, then critical; "at T, from -128 to 127, for any values, ordered or not"
 abbrev pub askedDuty : ℕ → ℕ → Curve → ℕ → ℕ
 askedDuty full n curve t =
     slope full (points (map degree (take n (curve .settings))) (curve .speeds)) (degree (getD (curve .settings) n 0)) (degree t)
 
--- the speed that a curve asks of its chip at a temperature byte: the duty of chip 1, the count of chip 2
+-- The speed that a curve asks of its chip at a temperature byte: the duty of chip 1, the count of chip 2. "a curve's meaning below is that of the
+-- chip in its curve mode": fan mode bits are not asked.
 abbrev pub asks : Chip → Curve → ℕ → ℕ
 asks Nct7802y curve t = askedDuty 255 4 curve t
 asks F75373s curve t = steps (curve .settings) (words (curve .speeds)) t
@@ -126,18 +127,26 @@ tellsAsked (asked.Refused r) = (numberOf r, 0)
 pub record Judges (plan : Plan) (r : Outcome) : Type 0 where
   pub answer : tells r ≡ first (planChecks plan)
 
--- what `plans::asked_of_plan` promises: "of a plan 3 and 4, never 6 or 7"
+-- "Asking a speed .. of a plan 3 and 4, never 6 or 7"
+abbrev pub askPlanChecks : Plan → List Check
+askPlanChecks plan = (unknown (plan .chip), 3) ∷ (noTable (plan .chip) (plan .table), 4) ∷ []
+
+-- what `plans::asked_of_plan` promises
 pub record AsksPlan (plan : Plan) (t : ℕ) (r : Asked) : Type 0 where
   pub answer :
       tellsAsked r
-      ≡ told ((unknown (plan .chip), 3) ∷ (noTable (plan .chip) (plan .table), 4) ∷ [])
+      ≡ told (askPlanChecks plan)
       (whenKnown (chipOf (plan .chip)) (λ c. asks c (planned c plan) t) 0)
 
--- what `plans::asked_of_image` promises: "Asking a speed of an image checks 3, 4 and 8". The image is only read, so it holds what it held.
+-- "Asking a speed of an image checks 3, 4 and 8"
+abbrev pub askImageChecks : ℕ → ℕ → List ℕ → List Check
+askImageChecks chip table image = (unknown chip, 3) ∷ (noTable chip table, 4) ∷ (notAnImage image, 8) ∷ []
+
+-- what `plans::asked_of_image` promises. The image is only read, so it holds what it held.
 pub record AsksImage (chip table : ℕ) (image : List ℕ) (t : ℕ) (r : Asked) : Type 0 where
   pub answer :
       tellsAsked r
-      ≡ told ((unknown chip, 3) ∷ (noTable chip table, 4) ∷ (notAnImage image, 8) ∷ [])
+      ≡ told (askImageChecks chip table image)
       (whenKnown (chipOf chip) (λ c. asks c (held (tableOf c table) image) t) 0)
 
 -- what `plans::plan_of_body` promises. The body is only read, so it holds what it held.

@@ -11,7 +11,7 @@ use Rattle.cards.specs.declared.Chip.{Chip}
 use Rattle.cards.specs.declared.Chip.the-variants.{Nct7802y, F75373s, Nct80}
 use Rattle.cards.specs.declared.Named.the-variants.{Known}
 use Rattle.cards.specs.Rows.{Table, from, positions}
-use Rattle.cards.specs.Cards.{chipOf, hasTable, tableOf, tableAt, baseOf}
+use Rattle.cards.specs.Cards.{chipOf, hasTable, tableOf, tableFrom, baseOf}
 use Rattle.cards.proofs.Numbers.{chip-number}
 use Rattle.cards.proofs.Tables.{table-at-base}
 use Rattle.plans.specs.declared.Plan.{Plan}
@@ -22,7 +22,7 @@ use Rattle.plans.proofs.Registers.{in-a-row, spelled}
 use Rattle.records.specs.Records.{body, bodyLength, recordLength, recordOf, ownOf, Sized}
 
 -- "9 bytes for chip 1, 14 for chip 2": as many as each of the chip's tables has registers
-at-base : (chip : Chip) (base : ℕ) → length (positions (tableAt chip base)) ≡ bodyLength chip
+at-base : (chip : Chip) (base : ℕ) → length (positions (tableFrom chip base)) ≡ bodyLength chip
 at-base Nct7802y base = refl
 at-base F75373s base = refl
 at-base Nct80 base = refl

@@ -135,7 +135,7 @@ read-accepts bytes n q small R e =
     let some = whole-record bytes (t .0) in
     whole-accepts bytes n (q .plan) (some .chip) (some .whole) small (t .1) (R .plan ∙ sym (when-passed (planIn bytes) noPlan (t .0)))
 
--- "a plan has one encoding": bytes that are read as the same plan are the same, as far as they are used
+-- A plan has one encoding: bytes that are read as the same plan are the same, as far as they are used
 pub one-encoding : (bytes other : List ℕ) (n m : ℕ) (q s : Found)
     → ((k : ℕ) → getD bytes k 0 < 256) → ((k : ℕ) → getD other k 0 < 256)
     → Reads bytes q → Reads other s → q .answer ≡ counted.Of n → s .answer ≡ counted.Of m → q .plan ≡ s .plan

@@ -20,7 +20,7 @@ use Rattle.cards.specs.declared.Chip.the-variants.{Nct7802y, F75373s, Nct80}
 use Rattle.cards.specs.declared.Named.{Named}
 use Rattle.cards.specs.declared.Named.the-variants.{Known, Unknown}
 use Rattle.cards.specs.Rows.{Table}
-use Rattle.cards.specs.Cards.{chipOf, whenKnown, hasTable, tableAt, baseOf}
+use Rattle.cards.specs.Cards.{chipOf, whenKnown, hasTable, tableFrom, baseOf}
 use Rattle.cards.proofs.Tables.{table-number, table-at-base}
 use Rattle.plans.specs.declared.Plan.{Plan}
 use Rattle.plans.specs.Plans.{Curve, planned, planChecks}
@@ -91,15 +91,15 @@ describes-plan chip plan tail long has =
     base : ℕ
     base = baseOf chip (plan .table)
 
-    es : length (planned chip plan .settings) ≡ length (tableAt chip base .settings)
+    es : length (planned chip plan .settings) ≡ length (tableFrom chip base .settings)
     es = sym (settings-fill chip plan long has) ∙ ap (λ (t : Table). length (t .settings)) (table-at-base chip (plan .table) has)
 
-    ev : length (planned chip plan .speeds) ≡ length (tableAt chip base .speeds)
+    ev : length (planned chip plan .speeds) ≡ length (tableFrom chip base .speeds)
     ev = sym (speeds-fill chip plan long has) ∙ ap (λ (t : Table). length (t .speeds)) (table-at-base chip (plan .table) has)
 
-    by-chip : (c : Chip) → length (planned c plan .settings) ≡ length (tableAt c base .settings)
-        → length (planned c plan .speeds) ≡ length (tableAt c base .speeds)
-        → Describes (laidOut c base (recordOf c plan ++ tail)) (script (fullOf c) (tableAt c base) (planned c plan))
+    by-chip : (c : Chip) → length (planned c plan .settings) ≡ length (tableFrom c base .settings)
+        → length (planned c plan .speeds) ≡ length (tableFrom c base .speeds)
+        → Describes (laidOut c base (recordOf c plan ++ tail)) (script (fullOf c) (tableFrom c base) (planned c plan))
     by-chip Nct7802y s v = laid-describes 0xFF base 5 4 (plan .chip) (plan .table) (planned Nct7802y plan) tail s v
     by-chip F75373s s v = laid-describes 0x00 base 4 10 (plan .chip) (plan .table) (planned F75373s plan) tail s v
     by-chip Nct80 s v = laid-describes 0x00 base 0 0 (plan .chip) (plan .table) (planned Nct80 plan) tail s v
