@@ -1,0 +1,14 @@
+-- `playing::least` meets its contract: by which of the two is smaller.
+-- Assumes nothing.
+use borrow.Author.Needs.{needs}
+use Rattle.scripts.proofs.playing.least.Statement.{statement}
+use Rattle.scripts.proofs.playing.least.Tie as tie
+
+returns : tie.Need-returns
+returns c = search needs
+
+returns-2 : tie.Need-returns-2
+returns-2 c = search needs
+
+pub least-spec : {M : Type 1} → statement M
+least-spec = tie.close (tie.spec returns returns-2)
