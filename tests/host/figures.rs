@@ -5,7 +5,8 @@ use crate::cards::{F75373S, NCT7802Y, NCT80};
 use crate::driver::{hold, Driver};
 use crate::model::{Plan, Watch, IMAGE};
 use crate::subject::Subject;
-use crate::tests::{power_on, never_slower};
+use crate::rounds::never_slower;
+use crate::tests::power_on;
 
 /// The bytes of the paper's example.
 const EXAMPLE: [u8; 13] = [

@@ -1,0 +1,248 @@
+//! The random tests, as many rounds as are asked for.
+
+use crate::driver::{hold, Driver};
+use crate::model::{Plan, Watch, BODY, IMAGE, INPUT, SCRIPT};
+use crate::random::{Draft, Random};
+use crate::subject::Subject;
+use crate::tests::power_on;
+
+/// No text of 4,096 bytes of input is longer.
+const TEXT: usize = 65536;
+
+/// Good records cut at every length and with every bit flipped.
+pub fn damaged_records<S: Subject>(d: &mut Driver<S>, r: &mut Random, rounds: usize) {
+    for _ in 0..rounds {
+        let record = r.good_plan().record();
+        for end in 0..=record.len() {
+            let refusal = d.read_record(&record[..end]).0;
+            let want = if end < 4 { 1 } else if end < record.len() { 5 } else { 0 };
+            hold(refusal == want, "a cut record", &(&record, end));
+        }
+        for bit in 0..8 * record.len() {
+            let mut flipped = record.clone();
+            flipped[bit / 8] ^= 1 << (bit % 8);
+            d.read_record(&flipped);
+        }
+    }
+}
+
+/// Chains of writes, reads and resets.
+pub fn images<S: Subject>(d: &mut Driver<S>, r: &mut Random, rounds: usize) {
+    let mut chip = r.chip();
+    let mut image = r.image(chip);
+    for _ in 0..rounds {
+        if r.once_in(20) {
+            chip = r.chip();
+            image = r.image(chip);
+            d.identity(chip, &image);
+        }
+        if r.once_in(50) {
+            d.reset(chip, &mut image);
+        }
+        let address = r.byte();
+        d.write(chip, &mut image, address, r.byte());
+        d.read(chip, &image, address);
+    }
+}
+
+/// Chains of samples and acknowledges from a new watch.
+pub fn watches<S: Subject>(d: &mut Driver<S>, r: &mut Random, rounds: usize) {
+    let mut watch = Watch { behaviour: 0, hot: false, pending: false };
+    let (mut high, mut low) = (80, 75);
+    for round in 0..rounds {
+        if round % 50 == 0 {
+            watch = Watch { behaviour: r.below(3) as u8, hot: false, pending: false };
+            high = r.byte() as i8;
+            low = if r.once_in(4) { r.byte() as i8 } else { high.saturating_sub(r.below(9) as i8) };
+        }
+        let near = 16 * i16::from(if r.once_in(2) { high } else { low }) + r.below(99) as i16 - 49;
+        let steps = if r.once_in(6) { r.steps() } else { near };
+        watch = d.sample(watch, steps, high, low).1;
+        if r.once_in(4) {
+            watch = d.acknowledge(watch);
+        }
+        d.output(watch);
+    }
+}
+
+/// Plans, ordered or not, and the same bytes in an image: all T.
+pub fn plans<S: Subject>(d: &mut Driver<S>, r: &mut Random, rounds: usize) {
+    for _ in 0..rounds {
+        let draft = r.plan();
+        d.judge(draft.plan());
+        let mut image = r.bytes(IMAGE);
+        let (_, first) = place(&draft);
+        let mut body = draft.body.clone();
+        body.resize(if draft.chip == 1 { 9 } else { BODY }, 0);
+        image[first..first + body.len()].copy_from_slice(&body);
+        for t in 0..=255 {
+            let answer = d.asked_of_plan(draft.plan(), t);
+            let held = d.asked_of_image(draft.chip, draft.table, &image, t);
+            hold(answer == held, "plan and image ask the same", &(&draft, t));
+        }
+    }
+    // "Asking a speed of an image checks 3, 4 and 8."
+    for _ in 0..rounds {
+        let (chip, table) = (r.chip(), r.table());
+        let image = r.image(chip);
+        d.asked_of_image(chip, table, &image, r.byte());
+    }
+}
+
+/// Length of the body and first address of a plan's table (of some table, if it has none).
+fn place(draft: &Draft) -> (usize, usize) {
+    let table = usize::from(draft.table);
+    match draft.chip {
+        1 => (9, 0x80 + 0x10 * (table.clamp(1, 3) - 1)),
+        _ => (14, 0xA0 + 0x10 * (table.clamp(1, 2) - 1)),
+    }
+}
+
+/// Records read and written, scripts, with outputs of all lengths.
+pub fn records<S: Subject>(d: &mut Driver<S>, r: &mut Random, rounds: usize) {
+    for _ in 0..rounds {
+        let bytes = r.record();
+        let (refusal, chip, table, body, used) = d.read_record(&bytes);
+        if refusal == 0 {
+            let mut out = [0; 18];
+            let written = d.write_record(Plan { chip, table, body: &body }, &mut out);
+            hold(written == (0, used), "what is read is written", &bytes);
+            hold(out[..used] == bytes[..used], "the same bytes", &bytes);
+        }
+        let draft = r.plan();
+        let mut out = vec![r.byte(); r.length()];
+        let (refusal, count) = d.write_record(draft.plan(), &mut out);
+        if refusal == 0 {
+            let (_, chip, table, body, used) = d.read_record(&out);
+            let (length, _) = place(&draft);
+            let own: Vec<u8> = draft.body.iter().copied().chain([0; BODY]).take(length).collect();
+            let equal = (chip, table, &body[..length], used) == (draft.chip, draft.table, &own[..], count);
+            hold(equal, "plans come back equal from their record", &draft);
+        }
+        let mut out = vec![r.byte(); r.length()];
+        d.script(draft.plan(), &mut out);
+    }
+}
+
+/// Plays of any plan on any image with any number of writes.
+pub fn plays<S: Subject>(d: &mut Driver<S>, r: &mut Random, rounds: usize) {
+    for _ in 0..rounds {
+        let draft = r.plan();
+        let chip = if r.once_in(9) { r.chip() } else { draft.chip };
+        let mut image = r.image(chip);
+        let count = match r.below(8) {
+            0 => [0, 1, 12, 13, 14, 23, 24, 25][r.below(8)],
+            1 => [255, 256, 257, 65536, 65539, usize::MAX / 2 + 1, usize::MAX - 1, usize::MAX][r.below(8)],
+            _ => r.below(27),
+        };
+        d.play(draft.plan(), &mut image, count);
+    }
+}
+
+/// All speeds an image's table asks.
+fn asks<S: Subject>(d: &mut Driver<S>, plan: Plan, image: &[u8]) -> Vec<u16> {
+    (0..=255).map(|t| d.asked_of_image(plan.chip, plan.table, image, t).1).collect()
+}
+
+/// Whether no image on the way is slower, at any T, than the slower of old and plan: "More duty
+/// is faster; a smaller count is faster."
+pub fn never_slower<S: Subject>(d: &mut Driver<S>, plan: Plan, old: &[u8], script: &[u8]) -> bool {
+    let planned: Vec<u16> = (0..=255).map(|t| d.asked_of_plan(plan, t).1).collect();
+    let before = asks(d, plan, old);
+    let mut image = old.to_vec();
+    script.chunks(2).all(|pair| {
+        d.write(plan.chip, &mut image, pair[0], pair[1]);
+        let now = asks(d, plan, &image);
+        (0..256).all(|t| match plan.chip {
+            1 => now[t] >= before[t].min(planned[t]),
+            _ => now[t] <= before[t].max(planned[t]),
+        })
+    })
+}
+
+/// Demand 3 by brute force at all cuts: never slower than the slower of old and plan at every
+/// T, exactly the plan after the last write, every byte outside the table as before.
+pub fn cuts<S: Subject>(d: &mut Driver<S>, r: &mut Random, rounds: usize) {
+    for round in 0..rounds {
+        let draft = r.good_plan();
+        let plan = draft.plan();
+        let old = match round % 4 {
+            0 => power_on(d, draft.chip),
+            _ => r.confirmed(draft.chip),
+        };
+        let mut script = [0; SCRIPT];
+        let (refusal, writes) = d.script(plan, &mut script);
+        hold((refusal, writes) == (0, if draft.chip == 1 { 13 } else { 24 }), "lengths 13 and 24", &draft);
+        hold(never_slower(d, plan, &old, &script[..2 * writes]), "never slower", &(&draft, &old));
+        let (length, first) = place(&draft);
+        let mut stage = old.clone();
+        for cut in (0..writes + 3).chain([255, usize::MAX]) {
+            let mut image = old.clone();
+            let made = d.play(plan, &mut image, cut);
+            hold(made == (0, cut.min(writes)), "writes made", &(&draft, cut));
+            if (1..=writes).contains(&cut) {
+                d.write(draft.chip, &mut stage, script[2 * cut - 2], script[2 * cut - 1]);
+            }
+            hold(image == stage, "the first writes of the script", &(&draft, cut));
+            let outside = image[..first] == old[..first] && image[first + length..] == old[first + length..];
+            hold(outside, "every byte outside the table as before", &(&draft, cut));
+            if cut >= writes {
+                hold(image[first..first + length] == draft.body[..], "the plan's bytes", &draft);
+                let planned: Vec<u16> = (0..=255).map(|t| d.asked_of_plan(plan, t).1).collect();
+                hold(asks(d, plan, &image) == planned, "exactly the plan", &draft);
+            }
+        }
+    }
+}
+
+/// The program's text, put together from single answers.
+fn text_of<S: Subject>(d: &mut Driver<S>, input: &[u8]) -> String {
+    if input.len() > INPUT {
+        return "input too long\n".to_string();
+    }
+    let (mut text, mut at, mut plans) = (String::new(), 0, 0);
+    while at < input.len() {
+        plans += 1;
+        let (refusal, chip, table, body, used) = d.read_record(&input[at..]);
+        let mut out = [0; SCRIPT];
+        let (other, writes) = d.script(Plan { chip, table, body: &body }, &mut out);
+        let refusal = if refusal == 0 { other } else { refusal };
+        if refusal != 0 {
+            return text + &format!("plan {} refused {}\n", plans, refusal);
+        }
+        text += &format!("plan {} chip {} table {} writes {}\n", plans, chip, table, writes);
+        for pair in out[..2 * writes].chunks(2) {
+            text += &format!("{:02X} {:02X}\n", pair[0], pair[1]);
+        }
+        at += used;
+    }
+    text + &format!("end {}\n", plans)
+}
+
+/// Whole translations, short and long, with outputs that are exact, short and long.
+pub fn texts<S: Subject>(d: &mut Driver<S>, r: &mut Random, rounds: usize) {
+    let mut large = vec![0xEE; TEXT];
+    for round in 0..rounds {
+        let input = match (round % 30, r.below(3)) {
+            (0, 0) => r.input(4096),
+            (0, 1) => r.bytes(4097),
+            (0, _) => r.input(5000),
+            (1, _) => r.input(3000),
+            (_, 0) => r.record(),
+            _ => {
+                let length = r.length();
+                r.input(length)
+            }
+        };
+        let want = text_of(d, &input);
+        large[..].fill(0xEE);
+        let (refusal, length) = d.translate(&input, &mut large);
+        hold(refusal == 0 && &large[..length] == want.as_bytes(), "the text", &input);
+        hold(large[length..].iter().all(|byte| *byte == 0xEE), "the tail is kept", &input);
+        for space in [0, length - 1, length, length + 1, r.length()] {
+            let mut out = vec![0xEE; space];
+            let (refusal, _) = d.translate(&input, &mut out);
+            hold((refusal == 9) == (space < length), "9 exactly when it is shorter", &(&input, space));
+        }
+    }
+}
