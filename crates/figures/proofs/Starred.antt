@@ -1,56 +1,97 @@
--- The starred figures of the rules paper, those of readings, the alarm watch and curves, hold of the definitions: one list under one claim.
+-- The starred figures of the rules paper hold of the definitions, as a single list under a single claim: each is computed.
 -- Assumes nothing.
 use Prim.Native.Nat.{ℕ}
-use mathlib.Core.Path.{_≡_}
-use mathlib.Core.Bool.{So, and-eq-true-iff}
-use mathlib.Core.List.{List, [], _∷_, _++_, map}
-use borrow.Author.Tests.{eqb-true}
-use lib.Dec.{eqb}
-use Rattle.readings.proofs.Figures as readings
-use Rattle.watch.proofs.Figures as watch
-use Rattle.plans.proofs.Figures as plans
+use mathlib.Core.Path.{_≡_, refl}
+use mathlib.Core.Bool.{Bool, true, false}
+use mathlib.Core.List.{List, [], _∷_}
+use lib.IntN.{ℤ, pos, negℤ}
+use Rattle.refusal.specs.Checks.{first, toldOr}
+use Rattle.cards.specs.declared.Chip.{Chip}
+use Rattle.cards.specs.declared.Chip.the-variants.{Nct7802y, F75373s}
+use Rattle.readings.specs.Readings.{bytesOf, stepsAt}
+use Rattle.readings.specs.Promises.{stepsChecks, bytesChecks}
+use Rattle.watch.specs.declared.Behaviour.{Behaviour}
+use Rattle.watch.specs.declared.Behaviour.the-variants.{Default, OneTime}
+use Rattle.watch.specs.Alarm.{Event, sample, acknowledge, fresh, run}
+use Rattle.plans.specs.Curves.{mean, above, below, slope, words}
+use Rattle.plans.specs.Curves as curves
+use Rattle.plans.specs.Plans.{asks}
 
--- a figure: of a reading, of the alarm watch, or of a curve: the speed that the definitions ask and the speed that the paper says
-pub data Starred : Type 0 where
-  reading : readings.Figure → Starred
-  alarm : watch.Figure → Starred
-  speed : ℕ × ℕ → Starred
+-- a figure: at a width, the steps of a word, or the number of the refusal of some steps, 0 where they fit; the speed that a chip's curve asks at a
+-- temperature; a fact of a new watch after a run
+pub data Figure : Type 0 where
+  word : ℕ → ℕ → ℤ → Figure
+  steps : ℕ → ℤ → ℕ → Figure
+  speed : Chip → List ℕ → List ℕ → ℕ → ℕ → Figure
+  pending hot : Behaviour → List Event → Bool → Figure
 
-abbrev pub Holds : Starred → Type 0
-Holds (reading f) = readings.Holds f
-Holds (alarm f) = watch.Holds f
-Holds (speed f) = f .0 ≡ f .1
+abbrev pub Holds : Figure → Type 0
+Holds (word w n s) = toldOr (pos 0) (stepsChecks w) (stepsAt w (bytesOf n .0) (bytesOf n .1)) ≡ (0, s)
+Holds (steps w s refusal) = first (bytesChecks w s) ≡ refusal
+Holds (speed chip settings speeds t asked) = asks chip (record { settings = settings; speeds = speeds }) t ≡ asked
+Holds (pending behaviour events on) = run (fresh behaviour) events .pending ≡ on
+Holds (hot behaviour events on) = run (fresh behaviour) events .hot ≡ on
 
-abbrev pub AllHold : List Starred → Type 0
+abbrev pub AllHold : List Figure → Type 0
 AllHold [] = Unit {0}
 AllHold (f ∷ fs) = Holds f × AllHold fs
 
-abbrev pub starred : List Starred
-starred = map reading readings.figures ++ (map alarm watch.figures ++ map speed plans.figures)
+-- "The plan above"
+abbrev paper : ℕ → ℕ → Figure
+paper = speed Nct7802y (0x1E ∷ 0x28 ∷ 0x32 ∷ 0x37 ∷ 0x3C ∷ []) (0x8C ∷ 0xAA ∷ 0xC8 ∷ 0xE6 ∷ [])
 
-append-hold : (fs gs : List Starred) → AllHold fs → AllHold gs → AllHold (fs ++ gs)
-append-hold [] gs p q = q
-append-hold (f ∷ fs) gs p q = (p .0, append-hold fs gs (p .1) q)
+-- counts 0102h, 0203h, 0304h, 0405h, 0506h
+abbrev stepped : ℕ → ℕ → Figure
+stepped = speed F75373s (60 ∷ 50 ∷ 40 ∷ 30 ∷ []) (1 ∷ 2 ∷ 2 ∷ 3 ∷ 3 ∷ 4 ∷ 4 ∷ 5 ∷ 5 ∷ 6 ∷ [])
 
-readings-hold : (fs : List readings.Figure) → readings.AllHold fs → AllHold (map reading fs)
-readings-hold [] p = tt
-readings-hold (f ∷ fs) p = (p .0, readings-hold fs (p .1))
+-- "Limits 80 and 75 degrees"
+abbrev at : ℤ → Event
+at s = sample s (pos 80) (pos 75)
 
-alarms-hold : (fs : List watch.Figure) → watch.AllHold fs → AllHold (map alarm fs)
-alarms-hold [] p = tt
-alarms-hold (f ∷ fs) p = (p .0, alarms-hold fs (p .1))
-
-speeds-hold : (fs : List (ℕ × ℕ)) → So (plans.agree fs) → AllHold (map speed fs)
-unfolding plans.agree
-speeds-hold [] p = tt
-speeds-hold (f ∷ fs) p =
-    let both = and-eq-true-iff (eqb (f .0) (f .1)) (plans.agree fs) .0 p in
-    (eqb-true (f .0) (f .1) (both .0), speeds-hold fs (both .1))
+abbrev pub starred : List Figure
+starred =
+    -- "Width 12: 7D00h is 2000, FFF0h is -1, C900h is -880."
+    word 12 0x7D00 (pos 2000)
+    ∷ word 12 0xFFF0 (negℤ (pos 1))
+    ∷ word 12 0xC900 (negℤ (pos 880))
+    -- "Width 9: C900h is -110." "Width 11: E7A0h is -195."
+    ∷ word 9 0xC900 (negℤ (pos 110))
+    ∷ word 11 0xE7A0 (negℤ (pos 195))
+    -- "32 steps at width 9 fit; 256 is refused 12, 255 and -256 fit."
+    ∷ steps 9 (pos 32) 0
+    ∷ steps 9 (pos 256) 12
+    ∷ steps 9 (pos 255) 0
+    ∷ steps 9 (negℤ (pos 256)) 0
+    -- "The plan above asks 140 at 30, 149 at 33, 185 at 45, 218 at 53, 230 at 58, 255 at 60."
+    ∷ paper 30 140
+    ∷ paper 33 149
+    ∷ paper 45 185
+    ∷ paper 53 218
+    ∷ paper 58 230
+    ∷ paper 60 255
+    -- "Unordered T1 = 50, T2 = 40 and critical 100: at 45 the duty is FL1."
+    ∷ speed Nct7802y (50 ∷ 40 ∷ 60 ∷ 70 ∷ 100 ∷ []) (11 ∷ 22 ∷ 33 ∷ 44 ∷ []) 45 11
+    -- "FL1 = 200, FL2 = 100, T1 = 0, T2 = 3, critical 100: at 1 the duty is 166."
+    ∷ speed Nct7802y (0 ∷ 3 ∷ 60 ∷ 70 ∷ 100 ∷ []) (200 ∷ 100 ∷ 33 ∷ 44 ∷ []) 1 166
+    -- "samples of 81, 78, acknowledge, 78 degrees .. in default and one-time pending is on, on, off, then on in default and off in one-time."
+    ∷ pending Default (at (pos 1296) ∷ []) true
+    ∷ pending Default (at (pos 1296) ∷ at (pos 1248) ∷ []) true
+    ∷ pending Default (at (pos 1296) ∷ at (pos 1248) ∷ acknowledge ∷ []) false
+    ∷ pending Default (at (pos 1296) ∷ at (pos 1248) ∷ acknowledge ∷ at (pos 1248) ∷ []) true
+    ∷ pending OneTime (at (pos 1296) ∷ []) true
+    ∷ pending OneTime (at (pos 1296) ∷ at (pos 1248) ∷ []) true
+    ∷ pending OneTime (at (pos 1296) ∷ at (pos 1248) ∷ acknowledge ∷ []) false
+    ∷ pending OneTime (at (pos 1296) ∷ at (pos 1248) ∷ acknowledge ∷ at (pos 1248) ∷ []) false
+    -- "Exactly 80 doesn't turn hot on; exactly 75 doesn't turn it off."
+    ∷ hot Default (at (pos 1280) ∷ []) false
+    ∷ hot Default (at (pos 1296) ∷ at (pos 1200) ∷ []) true
+    -- "B1 = 60, B2 = 50: 61 asks C1, 60 and 51 ask C2."
+    ∷ stepped 61 0x0102
+    ∷ stepped 60 0x0203
+    ∷ stepped 51 0x0203
+    ∷ []
 
 pub starred-hold : AllHold starred
+unfolding mean above below slope curves.steps words
 starred-hold =
-    append-hold (map reading readings.figures) (map alarm watch.figures ++ map speed plans.figures)
-    (readings-hold readings.figures readings.figures-hold)
-    (append-hold (map alarm watch.figures) (map speed plans.figures)
-    (alarms-hold watch.figures watch.figures-hold)
-    (speeds-hold plans.figures plans.figures-hold))
+    (refl, (refl, (refl, (refl, (refl, (refl, (refl, (refl, (refl, (refl, (refl, (refl, (refl, (refl, (refl, (refl, (refl, (refl, (refl, (refl, (refl, (refl, (refl, (refl, (refl, (refl, (refl, (refl, (refl, (refl, tt))))))))))))))))))))))))))))))

@@ -5,5 +5,4 @@ pub mod StepLaws
 pub mod Walks
 pub mod Registers
 pub mod Unique
-pub mod Figures
 pub mod Laws

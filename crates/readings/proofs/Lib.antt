@@ -6,4 +6,3 @@ pub mod Scaled
 pub mod Unique
 pub mod RoundTrip
 pub mod Degrees
-pub mod Figures
