@@ -13,6 +13,11 @@ use Rattle.plans.specs.Curves.{points, mean, above, below, slope}
 use Rattle.plans.specs.Orders.{Each, fulls, MoreDuty, neverFalls}
 use Rattle.plans.proofs.Cases.{both-ways, each-way}
 
+-- "Interpolating as FL1 minus a truncated difference: 167 in the figure above"
+pub not-truncated : mean (0, 200) (3, 100) 1 ≡ 166
+unfolding mean
+not-truncated = refl
+
 div-mono : (x y k : ℕ) → x ≤ y → x / k ≤ y / k
 div-mono x y zero h = rw (div-zero x, div-zero y) (le-refl 0)
 div-mono x y (suc k) h = le-div-iff-mul-le (zero-lt-suc k) .1 (le-trans (div-mul-le-self x (suc k)) h)
