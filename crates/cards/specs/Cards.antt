@@ -88,6 +88,10 @@ abbrev pub tellsPlace : Place → ℕ × ℕ
 tellsPlace (At base) = (0, base)
 tellsPlace Nowhere = (4, 0)
 
+-- refusal 8: "a register image is not 256 bytes long"
+abbrev pub notAnImage : List ℕ → Bool
+notAnImage image = not (eqb (length image) 256)
+
 -- what `cards::chip_of` promises
 pub record Names (number : ℕ) (named : Named) : Type 0 where
   pub answer : named ≡ chipOf number

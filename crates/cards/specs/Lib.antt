@@ -3,3 +3,4 @@ pub mod Nct7802y
 pub mod F75373s
 pub mod Nct80
 pub mod Cards
+pub mod Identity

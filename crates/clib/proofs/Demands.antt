@@ -10,8 +10,8 @@ use Rattle.refusal.proofs.Passed.{all-passed}
 use Rattle.cards.specs.declared.Chip.{Chip}
 use Rattle.cards.specs.declared.Named.the-variants.{Known}
 use Rattle.cards.specs.Cards.{chipOf}
-use Rattle.images.specs.Identity.{confirmed}
-use Rattle.images.specs.Images.{identityChecks, Confirms}
+use Rattle.cards.specs.Identity.{confirmed}
+use Rattle.identities.specs.Identities.{identityChecks, Confirms}
 use Rattle.readings.proofs.RoundTrip.{steps-come-back, bytes-come-back-cleared}
 use Rattle.records.proofs.RoundTrip.{read-written, written-read}
 use Rattle.clib.specs.Demands.{Demand2}

@@ -7,6 +7,7 @@ use mathlib.Core.Path.{_≡_, sym, ap, _∙_}
 use mathlib.Core.List.{List}
 use lib.IntN.{ℤ}
 use Rattle.images.proofs.Unique as images
+use Rattle.identities.proofs.Unique as identities
 use Rattle.readings.proofs.Unique as readings
 use Rattle.watch.proofs.Unique as watch
 use Rattle.plans.proofs.Unique as plans
@@ -39,7 +40,7 @@ pub reset-unique : {chip : ℕ} {old : List ℕ} {r s : ℕ} {l m : List ℕ} �
 reset-unique p q = (answers-unique (λ a b k l. images.resets-unique k l .0) p q, images.resets-unique (p .kept) (q .kept) .1)
 
 pub identity-unique : {chip : ℕ} {image : List ℕ} {r s : ℕ} → YkIdentity chip image r → YkIdentity chip image s → r ≡ s
-identity-unique p q = answers-unique (λ a b k l. images.confirms-unique k l) p q
+identity-unique p q = answers-unique (λ a b k l. identities.confirms-unique k l) p q
 
 pub steps-unique : {width high low : ℕ} {r s : ℕ} → YkSteps width high low r → YkSteps width high low s → r ≡ s
 steps-unique p q = answers-unique (λ a b k l. readings.counts-unique k l) p q

@@ -12,8 +12,8 @@ use Rattle.refusal.specs.declared.Count.the-variants.{Of}
 use Rattle.cards.specs.declared.Chip.{Chip}
 use Rattle.cards.specs.declared.Named.the-variants.{Known}
 use Rattle.cards.specs.Cards.{chipOf}
-use Rattle.images.specs.Identity.{confirmed}
-use Rattle.images.specs.Images.{Confirms}
+use Rattle.cards.specs.Identity.{confirmed}
+use Rattle.identities.specs.Identities.{Confirms}
 use Rattle.readings.specs.declared.Steps.{Steps}
 use Rattle.readings.specs.declared.Steps.the-variants.{Counted}
 use Rattle.readings.specs.declared.Bytes.{Bytes}

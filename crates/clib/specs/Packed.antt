@@ -12,6 +12,7 @@ use Rattle.refusal.specs.declared.Count.{Count}
 use Rattle.refusal.specs.Answers.{tells, tellsCount}
 use Rattle.images.specs.declared.ByteRead.{ByteRead}
 use Rattle.images.specs.Images as images
+use Rattle.identities.specs.Identities as identities
 use Rattle.readings.specs.declared.Steps.{Steps}
 use Rattle.readings.specs.declared.Bytes.{Bytes}
 use Rattle.readings.specs.Readings.{asWord}
@@ -87,7 +88,7 @@ abbrev pub YkReset : ℕ → List ℕ → ℕ → List ℕ → Type 0
 YkReset chip old r new = Answers packsOutcome (λ a. images.Resets chip old a new) r
 
 abbrev pub YkIdentity : ℕ → List ℕ → ℕ → Type 0
-YkIdentity chip image r = Answers packsOutcome (λ a. images.Confirms chip image a) r
+YkIdentity chip image r = Answers packsOutcome (λ a. identities.Confirms chip image a) r
 
 abbrev pub YkSteps : ℕ → ℕ → ℕ → ℕ → Type 0
 YkSteps width high low r = Answers packsSteps (λ a. readings.Counts width high low a) r

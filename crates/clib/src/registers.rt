@@ -30,6 +30,6 @@ pub extern "C" fn yk_reset(chip: u8, image: &mut [u8]) -> u64
 pub extern "C" fn yk_identity(chip: u8, image: &[u8]) -> u64
     ensures { λ r. ⌜ YkIdentity chip (now (image .entry)) r ⌝ }
 {
-    let outcome = images::identity(chip, image);
+    let outcome = identities::confirm(chip, image);
     packing::of_outcome(outcome)
 }

@@ -89,7 +89,7 @@ fn reset(chip: u8, image: &mut [u8]) {
 }
 
 fn identity(chip: u8, image: &[u8]) {
-    match images::identity(chip, image) {
+    match identities::confirm(chip, image) {
         Outcome::Refused(r) => after_refusal(r, image),
         Outcome::Accepted => print::text(b" confirmed"),
     }
@@ -176,7 +176,7 @@ pub fn print_stored() {
 
 // 1 where the image is not confirmed.
 fn undone(chip: u8, image: &[u8]) -> u64 {
-    match images::identity(chip, image) {
+    match identities::confirm(chip, image) {
         Outcome::Accepted => 0,
         Outcome::Refused(_) => 1,
     }

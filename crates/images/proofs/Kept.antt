@@ -21,7 +21,7 @@ use Rattle.cards.specs.Nct7802y as nct7802y
 use Rattle.cards.specs.F75373s as f75373s
 use Rattle.cards.proofs.Fixed.{fixed, allFixed, nct7802y-fixed, f75373s-fixed}
 use Rattle.images.specs.Bytes.{storedBit, storedBits, stored, storedAt, written}
-use Rattle.images.specs.Identity.{allHold, confirmed}
+use Rattle.cards.specs.Identity.{allHold, confirmed}
 use Rattle.images.proofs.Digits.{bit, digit}
 use Rattle.images.proofs.Laws.{storedAt-other}
 

@@ -8,7 +8,7 @@ use Rattle.refusal.proofs.Answers.{tells-injective}
 use Rattle.refusal.specs.declared.Outcome.{Outcome}
 use Rattle.images.specs.declared.ByteRead.{ByteRead}
 use Rattle.images.specs.declared.ByteRead.the-variants as byteRead
-use Rattle.images.specs.Images.{tellsByte, Writes, Reads, Resets, Confirms}
+use Rattle.images.specs.Images.{tellsByte, Writes, Reads, Resets}
 
 pub tellsByte-injective : (r s : ByteRead) → tellsByte r ≡ tellsByte s → r ≡ s
 tellsByte-injective (byteRead.Byte b) (byteRead.Byte d) e = ap byteRead.Byte (ap (λ (t : ℕ × ℕ). t .1) e)
@@ -27,6 +27,3 @@ reads-unique {r = r} {s = s} p q = tellsByte-injective r s (p .answer ∙ sym (q
 pub resets-unique : {chip : ℕ} {old : List ℕ} {r s : Outcome} {l m : List ℕ}
     → Resets chip old r l → Resets chip old s m → (r ≡ s) × (l ≡ m)
 resets-unique {r = r} {s = s} p q = (tells-injective r s (p .answer ∙ sym (q .answer)), p .bytes ∙ sym (q .bytes))
-
-pub confirms-unique : {chip : ℕ} {image : List ℕ} {r s : Outcome} → Confirms chip image r → Confirms chip image s → r ≡ s
-confirms-unique {r = r} {s = s} p q = tells-injective r s (p .answer ∙ sym (q .answer))

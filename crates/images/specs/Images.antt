@@ -2,40 +2,25 @@
 -- Assumes nothing.
 use Prim.Native.Nat.{ℕ}
 use mathlib.Core.Path.{_≡_}
-use mathlib.Core.Bool.{Bool, false, not}
 use mathlib.Core.List.{List, [], _∷_}
-use lib.Dec.{eqb}
-use lib.ListN.{length, getD}
+use lib.ListN.{getD}
 use Rattle.refusal.specs.declared.Outcome.{Outcome}
 use Rattle.refusal.specs.Refusals.{numberOf}
 use Rattle.refusal.specs.Answers.{tells}
 use Rattle.refusal.specs.Checks.{Check, first, told, left}
-use Rattle.cards.specs.Cards.{chipOf, whenKnown, unknown, powerOn}
+use Rattle.cards.specs.Cards.{chipOf, whenKnown, unknown, notAnImage, powerOn}
 use Rattle.images.specs.declared.ByteRead.{ByteRead}
 use Rattle.images.specs.declared.ByteRead.the-variants as byteRead
 use Rattle.images.specs.Bytes.{written}
-use Rattle.images.specs.Identity.{confirmed}
 
 -- the paper's number and the byte of an answer
 abbrev pub tellsByte : ByteRead → ℕ × ℕ
 tellsByte (byteRead.Byte b) = (0, b)
 tellsByte (byteRead.Refused r) = (numberOf r, 0)
 
--- refusal 8: "a register image is not 256 bytes long"
-abbrev pub notAnImage : List ℕ → Bool
-notAnImage image = not (eqb (length image) 256)
-
 -- "Byte writes, reads and resets check 3 and 8"
 abbrev pub imageChecks : ℕ → List ℕ → List Check
 imageChecks chip image = (unknown chip, 3) ∷ (notAnImage image, 8) ∷ []
-
--- refusal 10: "identity is not confirmed"
-abbrev pub unconfirmed : ℕ → List ℕ → Bool
-unconfirmed chip image = not (whenKnown (chipOf chip) (λ c. confirmed c image) false)
-
--- "identity 3, 8 and 10"
-abbrev pub identityChecks : ℕ → List ℕ → List Check
-identityChecks chip image = (unknown chip, 3) ∷ (notAnImage image, 8) ∷ (unconfirmed chip image, 10) ∷ []
 
 -- what `images::write` promises
 pub record Writes (chip : ℕ) (old : List ℕ) (address byte : ℕ) (r : Outcome) (new : List ℕ) : Type 0 where
@@ -50,7 +35,3 @@ pub record Reads (chip : ℕ) (image : List ℕ) (address : ℕ) (r : ByteRead) 
 pub record Resets (chip : ℕ) (old : List ℕ) (r : Outcome) (new : List ℕ) : Type 0 where
   pub answer : tells r ≡ first (imageChecks chip old)
   pub bytes : new ≡ left (imageChecks chip old) (whenKnown (chipOf chip) powerOn old) old
-
--- what `images::identity` promises. The image is only read, so it holds what it held.
-pub record Confirms (chip : ℕ) (image : List ℕ) (r : Outcome) : Type 0 where
-  pub answer : tells r ≡ first (identityChecks chip image)

@@ -1,6 +1,5 @@
-// A register image of a chip, lent by the caller: written, read, reset, and asked whose it is.
+// A register image of a chip, lent by the caller: written, read and reset.
 mod bytes;
-mod identities;
 
 use cards::Chip;
 use cards::Named;
@@ -9,7 +8,7 @@ use refusal::Refusal;
 ghost use mathlib.Core.Path.{_≡_};
 ghost use lib.ListN.{length};
 ghost use Rattle.cards.specs.Cards.{powerOn};
-ghost use Rattle.images.specs.Images.{Writes, Reads, Resets, Confirms};
+ghost use Rattle.images.specs.Images.{Writes, Reads, Resets};
 
 pub enum ByteRead {
     Byte(u8),
@@ -85,25 +84,6 @@ pub fn reset(chip: u8, image: &mut [u8]) -> Outcome
             let working = power_on_image(known);
             copy(image, working);
             Outcome::Accepted
-        }
-    }
-}
-
-// Whether the image is the chip's, by every bit that its identity names.
-pub fn identity(chip: u8, image: &[u8]) -> Outcome
-    ensures { λ r. ⌜ Confirms chip (now (image .entry)) r ⌝ }
-{
-    match cards::chip_of(chip) {
-        Named::Unknown => Outcome::Refused(Refusal::NoSuchChip),
-        Named::Known(known) => {
-            if image.len() != 256 {
-                return Outcome::Refused(Refusal::NotAnImage);
-            }
-            if identities::confirmed(known, image) {
-                Outcome::Accepted
-            } else {
-                Outcome::Refused(Refusal::IdentityNotConfirmed)
-            }
         }
     }
 }

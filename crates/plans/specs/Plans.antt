@@ -12,8 +12,7 @@ use Rattle.refusal.specs.Checks.{Check, first, told}
 use Rattle.cards.specs.declared.Chip.{Chip}
 use Rattle.cards.specs.declared.Chip.the-variants.{Nct7802y, F75373s, Nct80}
 use Rattle.cards.specs.Rows.{Table, from}
-use Rattle.cards.specs.Cards.{chipOf, whenKnown, unknown, noTable, tableOf}
-use Rattle.images.specs.Images.{notAnImage}
+use Rattle.cards.specs.Cards.{chipOf, whenKnown, unknown, noTable, notAnImage, tableOf}
 use Rattle.plans.specs.declared.Plan.{Plan}
 use Rattle.plans.specs.declared.Asked.{Asked}
 use Rattle.plans.specs.declared.Asked.the-variants as asked

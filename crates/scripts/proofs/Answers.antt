@@ -22,7 +22,7 @@ use Rattle.refusal.specs.declared.Count.the-variants as counted
 use Rattle.cards.specs.declared.Named.{Named}
 use Rattle.cards.specs.declared.Named.the-variants.{Known, Unknown}
 use Rattle.cards.specs.Cards.{chipOf, whenKnown}
-use Rattle.images.specs.Images.{identityChecks, Confirms}
+use Rattle.identities.specs.Identities.{identityChecks, Confirms}
 use Rattle.plans.specs.declared.Plan.{Plan}
 use Rattle.plans.specs.Plans.{planChecks}
 use Rattle.scripts.specs.declared.making.Script.{Script}

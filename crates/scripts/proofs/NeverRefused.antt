@@ -9,7 +9,7 @@ use Rattle.refusal.specs.declared.Count.{Count}
 use Rattle.refusal.specs.declared.Count.the-variants as counted
 use Rattle.refusal.proofs.Answers.{tellsCount-injective}
 use Rattle.refusal.proofs.Passed.{told-passed}
-use Rattle.images.specs.Images.{identityChecks}
+use Rattle.identities.specs.Identities.{identityChecks}
 use Rattle.plans.specs.declared.Plan.{Plan}
 use Rattle.plans.specs.Plans.{planChecks}
 use Rattle.scripts.specs.Scripts.{scriptFor, playChecks, Plays}

@@ -11,7 +11,7 @@ use Rattle.cards.specs.declared.Chip.the-variants.{Nct7802y, F75373s, Nct80}
 use Rattle.cards.specs.declared.Named.the-variants.{Known}
 use Rattle.cards.specs.Rows.{positions}
 use Rattle.cards.specs.Cards.{chipOf, tableOf}
-use Rattle.images.specs.Images.{identityChecks}
+use Rattle.identities.specs.Identities.{identityChecks}
 use Rattle.plans.specs.declared.Plan.{Plan}
 use Rattle.plans.specs.declared.Asked.{Asked}
 use Rattle.plans.specs.declared.Asked.the-variants.{Speed, Refused}

@@ -11,9 +11,9 @@ use Rattle.refusal.specs.Checks.{Check, told, left}
 use Rattle.cards.specs.declared.Chip.{Chip}
 use Rattle.cards.specs.declared.Chip.the-variants.{Nct7802y, F75373s, Nct80}
 use Rattle.cards.specs.Rows.{Table}
-use Rattle.cards.specs.Cards.{chipOf, whenKnown, tableOf}
+use Rattle.cards.specs.Cards.{chipOf, whenKnown, tableOf, notAnImage}
 use Rattle.images.specs.Bytes.{written}
-use Rattle.images.specs.Images.{notAnImage, unconfirmed}
+use Rattle.identities.specs.Identities.{unconfirmed}
 use Rattle.plans.specs.declared.Plan.{Plan}
 use Rattle.plans.specs.Curves.{points}
 use Rattle.plans.specs.Orders.{fulls}

@@ -40,7 +40,7 @@ pub fn play(plan: Plan, image: &mut [u8], count: usize) -> Count
     let script = prepared.script;
     match ready {
         Outcome::Refused(refusal) => Count::Refused(refusal),
-        Outcome::Accepted => match images::identity(plan.chip, image) {
+        Outcome::Accepted => match identities::confirm(plan.chip, image) {
             Outcome::Refused(refusal) => Count::Refused(refusal),
             Outcome::Accepted => {
                 let writes = playing::least(count, script.writes());

@@ -33,8 +33,8 @@ enum-known-ready c = search needs
 enum-told : tie.Need-enum-told
 enum-told c = search needs
 
-identity-requires : tie.Need-identity-requires
-identity-requires c κs = search needs
+confirm-requires : tie.Need-confirm-requires
+confirm-requires c κs = search needs
 
 enum-known-refusal : tie.Need-enum-known-refusal
 enum-known-refusal c = search needs
@@ -51,7 +51,7 @@ least-requires c κs = search needs
 make-requires : tie.Need-make-requires
 make-requires c κs =
     let asked = c .before .before .before .before .before in
-    let confirmed = answered (asked .identity .ensures) (c .before .before .before .enum-told2 .given .1) in
+    let confirmed = answered (asked .confirm .ensures) (c .before .before .before .enum-told2 .given .1) in
     (asked .before .before .before .before .before .prepare .ensures .inside, (rw (c .before .least .ensures, c .before .before .writes .ensures) (min-le-right _ _), confirmed-long confirmed))
 
 returns : tie.Need-returns
@@ -67,7 +67,7 @@ returns-2 c =
     let asked = c .before .before .before in
     let k = asked .before .before .before .before .before in
     let accepted = sym (k .prepare .ensures .answer) ∙ ap tells (asked .before .before .enum-told .given .1) in
-    safe (k .before) (play-unconfirmed _ _ _ accepted (answered (asked .identity .ensures) (c .before .refusal .given .1)))
+    safe (k .before) (play-unconfirmed _ _ _ accepted (answered (asked .confirm .ensures) (c .before .refusal .given .1)))
 
 same-length-2 : tie.Need-same-length-2
 same-length-2 c = search needs
@@ -79,7 +79,7 @@ returns-3 c =
     let k = asked .before .before .before .before .before in
     let accepted = sym (k .prepare .ensures .answer) ∙ ap tells (asked .before .before .enum-told .given .1) in
     safe (k .before)
-    (play-made _ _ _ accepted (answered (asked .identity .ensures) (chosen .before .before .enum-told2 .given .1))
+    (play-made _ _ _ accepted (answered (asked .confirm .ensures) (chosen .before .before .enum-told2 .given .1))
     (k .prepare .ensures .pairs accepted) (chosen .least .ensures ∙ ap (min _) (chosen .before .writes .ensures)) (c .before .before .make .ensures))
 
 pub play-spec : {M : Type 1} → statement M
@@ -89,7 +89,7 @@ play-spec =
     prepare-requires
     enum-known-ready
     enum-told
-    identity-requires
+    confirm-requires
     enum-known-refusal
     enum-told-2
     writes-requires

@@ -1,10 +1,10 @@
--- `images::identity` meets its contract: each answer knows which chip the number names, how long the image is and whether it is confirmed.
+-- `identities::confirm` meets its contract: each answer knows which chip the number names, how long the image is and whether it is confirmed.
 -- Assumes nothing.
 use mathlib.Core.Path.{sym, _∙_}
 use borrow.Author.Tests.{eq-eqb, ne-eqb}
 use borrow.Author.Needs.{needs}
-use Rattle.images.proofs.identity.Statement.{statement}
-use Rattle.images.proofs.identity.Tie as tie
+use Rattle.identities.proofs.confirm.Statement.{statement}
+use Rattle.identities.proofs.confirm.Tie as tie
 
 chip-of-requires : tie.Need-chip-of-requires
 chip-of-requires c κs = search needs
@@ -38,8 +38,8 @@ returns-4 c =
     let e = sym (k .before .before .before .before .chip-of .ensures .answer) ∙ k .before .before .known .given .1 in
     record { answer = simp (e, eq-eqb _ _ (k .if1 .left), sym (c .before .confirmed .ensures) ∙ c .if2 .left) }
 
-pub identity-spec : {M : Type 1} → statement M
-identity-spec =
+pub confirm-spec : {M : Type 1} → statement M
+confirm-spec =
     tie.close
     (tie.spec
     chip-of-requires

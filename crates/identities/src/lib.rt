@@ -1,10 +1,14 @@
-// The identity of each chip, all of its bits. Early answers, so that each register that is used stands on a line of its own.
+// Whose an image is. Early answers, so that each register that an identity names stands on a line of its own.
 use cards::Chip;
+use cards::Named;
+use refusal::Outcome;
+use refusal::Refusal;
 ghost use mathlib.Core.Path.{_≡_};
 ghost use lib.ListN.{length};
 ghost use Rattle.cards.specs.Nct7802y as nct7802y;
 ghost use Rattle.cards.specs.F75373s as f75373s;
-ghost use Rattle.images.specs.Identity.{allHold, confirmed};
+ghost use Rattle.cards.specs.Identity.{allHold, confirmed};
+ghost use Rattle.identities.specs.Identities.{Confirms};
 
 fn is_nct7802y(image: &[u8]) -> bool
     requires { ⌜ length (now image) ≡ 256 ⌝ }
@@ -42,7 +46,7 @@ fn is_f75373s(image: &[u8]) -> bool
 }
 
 // No identity is known of the NCT80, so none is confirmed.
-pub(crate) fn confirmed(chip: Chip, image: &[u8]) -> bool
+fn confirmed(chip: Chip, image: &[u8]) -> bool
     requires { ⌜ length (now image) ≡ 256 ⌝ }
     ensures { λ r. ⌜ r ≡ confirmed chip (now (image .entry)) ⌝ }
 {
@@ -50,5 +54,24 @@ pub(crate) fn confirmed(chip: Chip, image: &[u8]) -> bool
         Chip::Nct7802y => is_nct7802y(image),
         Chip::F75373s => is_f75373s(image),
         Chip::Nct80 => false,
+    }
+}
+
+// Whether the image is the chip's, by every bit that its identity names.
+pub fn confirm(chip: u8, image: &[u8]) -> Outcome
+    ensures { λ r. ⌜ Confirms chip (now (image .entry)) r ⌝ }
+{
+    match cards::chip_of(chip) {
+        Named::Unknown => Outcome::Refused(Refusal::NoSuchChip),
+        Named::Known(known) => {
+            if image.len() != 256 {
+                return Outcome::Refused(Refusal::NotAnImage);
+            }
+            if confirmed(known, image) {
+                Outcome::Accepted
+            } else {
+                Outcome::Refused(Refusal::IdentityNotConfirmed)
+            }
+        }
     }
 }

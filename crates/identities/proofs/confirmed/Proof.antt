@@ -1,9 +1,9 @@
--- `images::identities::confirmed` meets its contract: each arm answers for its chip.
+-- `identities::confirmed` meets its contract: each arm answers for its chip.
 -- Assumes nothing.
-use Rattle.images.specs.Identity.{confirmed}
+use Rattle.cards.specs.Identity.{confirmed}
 use borrow.Author.Needs.{needs}
-use Rattle.images.proofs.identities.confirmed.Statement.{statement}
-use Rattle.images.proofs.identities.confirmed.Tie as tie
+use Rattle.identities.proofs.confirmed.Statement.{statement}
+use Rattle.identities.proofs.confirmed.Tie as tie
 
 enum-told : tie.Need-enum-told
 enum-told c = search needs

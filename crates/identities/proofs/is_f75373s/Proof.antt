@@ -1,10 +1,10 @@
--- `images::identities::is_nct7802y` meets its contract: each early answer knows which tests held before it.
+-- `identities::is_f75373s` meets its contract: each early answer knows which tests held before it.
 -- Assumes nothing.
 use mathlib.Core.Bool.{and-true}
 use borrow.Author.Tests.{eq-eqb, ne-eqb}
 use borrow.Author.Needs.{needs}
-use Rattle.images.proofs.identities.is_nct7802y.Statement.{statement}
-use Rattle.images.proofs.identities.is_nct7802y.Tie as tie
+use Rattle.identities.proofs.is_f75373s.Statement.{statement}
+use Rattle.identities.proofs.is_f75373s.Tie as tie
 
 shared-slice-read-if1 : tie.Need-shared-slice-read-if1
 shared-slice-read-if1 c = search needs
@@ -24,20 +24,14 @@ shared-slice-read-if3 c = search needs
 returns-3 : tie.Need-returns-3
 returns-3 c = simp (eq-eqb _ _ (c .before .before .before .before .if1 .left), eq-eqb _ _ (c .before .before .if2 .left), ne-eqb _ _ (c .if3 .taken))
 
-shared-slice-read-if4 : tie.Need-shared-slice-read-if4
-shared-slice-read-if4 c = search needs
-
-returns-4 : tie.Need-returns-4
-returns-4 c = simp (eq-eqb _ _ (c .before .before .before .before .before .before .if1 .left), eq-eqb _ _ (c .before .before .before .before .if2 .left), eq-eqb _ _ (c .before .before .if3 .left), ne-eqb _ _ (c .if4 .taken))
-
 shared-slice-read-result : tie.Need-shared-slice-read-result
 shared-slice-read-result c = search needs
 
-returns-5 : tie.Need-returns-5
-returns-5 c = rw (eq-eqb _ _ (c .before .before .before .before .before .before .before .if1 .left), eq-eqb _ _ (c .before .before .before .before .before .if2 .left), eq-eqb _ _ (c .before .before .before .if3 .left), eq-eqb _ _ (c .before .if4 .left), and-true)
+returns-4 : tie.Need-returns-4
+returns-4 c = rw (eq-eqb _ _ (c .before .before .before .before .before .if1 .left), eq-eqb _ _ (c .before .before .before .if2 .left), eq-eqb _ _ (c .before .if3 .left), and-true)
 
-pub is-nct7802y-spec : {M : Type 1} → statement M
-is-nct7802y-spec =
+pub is-f75373s-spec : {M : Type 1} → statement M
+is-f75373s-spec =
     tie.close
     (tie.spec
     shared-slice-read-if1
@@ -46,7 +40,5 @@ is-nct7802y-spec =
     returns-2
     shared-slice-read-if3
     returns-3
-    shared-slice-read-if4
-    returns-4
     shared-slice-read-result
-    returns-5)
+    returns-4)
