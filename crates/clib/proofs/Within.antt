@@ -19,10 +19,11 @@ use Rattle.cards.specs.Rows.{Table}
 use Rattle.cards.specs.Nct7802y as nct7802y
 use Rattle.cards.specs.F75373s as f75373s
 use Rattle.cards.specs.Cards.{chipOf, whenKnown, tableOf}
-use Rattle.plans.specs.declared.Plan.{Plan}
-use Rattle.plans.specs.Curves.{points}
-use Rattle.plans.specs.Orders.{fulls}
-use Rattle.plans.specs.Plans.{planned, decoded}
+use Rattle.curves.specs.declared.Plan.{Plan}
+use Rattle.curves.specs.Curves.{points}
+use Rattle.curves.specs.Orders.{fulls}
+use Rattle.curves.specs.Planned.{planned}
+use Rattle.plans.specs.Plans.{decoded}
 use Rattle.records.specs.Records.{Sized, roomChecks, writeChecks, recordOf, encoded, bodyLength, recordLength, chipIn, Writes}
 use Rattle.records.proofs.Encoding.{record-of-plan, decoded-sized}
 use Rattle.scripts.specs.Scripts.{scriptOf, scriptFor, fullOf, scriptChecks, playChecks, Scripts, Plays}

@@ -20,7 +20,7 @@ use Rattle.readings.specs.declared.Bytes.{Bytes}
 use Rattle.readings.specs.declared.Bytes.the-variants.{Pair}
 use Rattle.readings.specs.Readings.{cleared}
 use Rattle.readings.specs.Promises as readings
-use Rattle.plans.specs.declared.Plan.{Plan}
+use Rattle.curves.specs.declared.Plan.{Plan}
 use Rattle.records.specs.declared.Found.{Found}
 use Rattle.records.specs.Records as records
 

@@ -1,6 +1,6 @@
 // A plan as it crosses: its chip, its table and the bytes of its body.
 use cards::Named;
-use plans::Plan;
+use curves::Plan;
 ghost use mathlib.Core.Path.{_≡_};
 ghost use Rattle.clib.specs.Bodies.{unnamed, planFrom};
 

@@ -13,9 +13,9 @@ use Rattle.readings.specs.Promises.{stepsChecks, bytesChecks}
 use Rattle.watch.specs.declared.Behaviour.{Behaviour}
 use Rattle.watch.specs.declared.Behaviour.the-variants.{Default, OneTime}
 use Rattle.watch.specs.Alarm.{Event, sample, acknowledge, fresh, run}
-use Rattle.plans.specs.Curves.{mean, above, below, slope, words}
-use Rattle.plans.specs.Curves as curves
-use Rattle.plans.specs.Plans.{asks}
+use Rattle.curves.specs.Curves.{mean, above, below, slope, words}
+use Rattle.curves.specs.Curves as curves
+use Rattle.curves.specs.Planned.{asks}
 
 -- a figure: at a width, the steps of a word, or the number of the refusal of some steps, 0 where they fit; the speed that a chip's curve asks at a
 -- temperature; a fact of a new watch after a run

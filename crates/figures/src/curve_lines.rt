@@ -1,8 +1,8 @@
 // What curves ask, of plans and of images: `.. at T is S`. T is signed for chip 1; S is a duty in decimal, for other chips a count in hexadecimal.
 use crate::print;
 use crate::samples;
+use curves::Plan;
 use plans::Asked;
-use plans::Plan;
 
 pub fn degrees(chip: u8, t: u8) {
     if chip == 1 {

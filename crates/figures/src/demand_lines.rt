@@ -5,7 +5,7 @@ use crate::numbers;
 use crate::print;
 use crate::samples;
 use crate::script_lines;
-use plans::Plan;
+use curves::Plan;
 
 fn temperature(chip: u8, k: u8) -> u8 {
     if chip == 1 {

@@ -1,7 +1,7 @@
 // Plan records read, `read BYTES used N PLAN`, and written to a buffer that was filled with 5Ah, `write PLAN room N used N out BYTES`.
 use crate::print;
 use crate::samples;
-use plans::Plan;
+use curves::Plan;
 use refusal::Count;
 
 fn used(answer: Count) {

@@ -1,6 +1,6 @@
 // Plans that lines are about, and how a line shows one: ` chip C table T`, then in hexadecimal T1 to T4, critical, FL1 to FL4, B1 to B4, C1 to C5.
 use crate::print;
-use plans::Plan;
+use curves::Plan;
 
 // A plan with chip 1's values; another chip number may stand on it.
 pub fn slope(chip: u8, table: u8, temperatures: [u8; 4], critical: u8, duties: [u8; 4]) -> Plan {

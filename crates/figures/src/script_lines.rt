@@ -3,7 +3,7 @@
 use crate::image_calls;
 use crate::print;
 use crate::samples;
-use plans::Plan;
+use curves::Plan;
 use refusal::Count;
 
 pub fn made(answer: Count) {

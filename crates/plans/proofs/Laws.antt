@@ -13,12 +13,13 @@ use Rattle.cards.specs.declared.Chip.{Chip}
 use Rattle.cards.specs.declared.Chip.the-variants.{Nct7802y, F75373s}
 use Rattle.cards.specs.declared.Named.the-variants.{Known}
 use Rattle.cards.specs.Cards.{chipOf, unknown, hasTable, noTable}
-use Rattle.plans.specs.declared.Plan.{Plan}
-use Rattle.plans.specs.Curves.{degree}
-use Rattle.plans.specs.Orders.{Each, fulls, MoreDuty}
-use Rattle.plans.specs.Plans.{planned, asks, temperaturesInOrder, speedsInOrder, temperaturesOut, speedsOut, planChecks}
-use Rattle.plans.proofs.SlopeLaws.{slope-never-falls}
-use Rattle.plans.proofs.StepLaws.{steps-never-rises, words-halves}
+use Rattle.curves.specs.declared.Plan.{Plan}
+use Rattle.curves.specs.Curves.{degree}
+use Rattle.curves.specs.Orders.{Each, fulls, MoreDuty}
+use Rattle.curves.specs.Planned.{planned, asks, temperaturesInOrder, speedsInOrder}
+use Rattle.plans.specs.Plans.{temperaturesOut, speedsOut, planChecks}
+use Rattle.curves.proofs.SlopeLaws.{slope-never-falls}
+use Rattle.curves.proofs.StepLaws.{steps-never-rises, words-halves}
 
 -- a plan of a chip that no check refuses
 pub record Accepted (chip : Chip) (plan : Plan) : Type 0 where

@@ -1,32 +1,22 @@
--- A curve in register order: a list is spelled by its places, a table's bytes are those of the body at its base, and a plan asks what its curve does.
+-- A table's bytes are those of the body at its base, so the plan read from there asks what the registers ask.
 -- Assumes nothing.
-use Prim.Native.Nat.{ℕ, zero, suc, _+_, _-_, _≤_}
+use Prim.Native.Nat.{ℕ, zero, suc, _+_, _-_}
 use native.Mathlib.Nat.{add-zero, add-suc}
 use native.Mathlib.Omega.{arith}
 use mathlib.Core.Path.{_≡_, refl, sym, ap, ap₂, _∙_}
 use mathlib.Core.Bool.{true}
-use mathlib.Core.List.{List, [], _∷_, map}
-use lib.ListN.{length, getD, take, drop, length-drop}
-use lib.Seq.{drop-cons, take-all, take-at, getD-at, getD-drop}
+use mathlib.Core.List.{List, _∷_}
+use lib.ListN.{length, take, drop, length-drop}
+use lib.Seq.{take-all, getD-drop}
 use Rattle.cards.specs.Rows.{Table, from}
 use Rattle.cards.specs.Cards.{hasTable, tableOf, tableFrom, baseOf}
 use Rattle.cards.specs.declared.Chip.{Chip}
 use Rattle.cards.specs.declared.Chip.the-variants.{Nct7802y, F75373s, Nct80}
 use Rattle.cards.proofs.Tables.{table-at-base}
-use Rattle.plans.specs.declared.Plan.{Plan}
-use Rattle.plans.specs.Curves.{degree, points, slope, steps, words}
-use Rattle.plans.specs.Plans.{Curve, planned, bytesAt, held, decoded, asks}
-use Rattle.plans.proofs.StepLaws.{words-halves}
-
--- what stands at n places in a row is a part of the list
-pub in-a-row : (l : List ℕ) (k n : ℕ) → k + n ≤ length l → bytesAt l (from k n) ≡ take n (drop k l)
-in-a-row l k zero h = refl
-in-a-row l k (suc n) h =
-    ap (λ (m : List ℕ). getD l k 0 ∷ m) (in-a-row l (suc k) n (omega arith)) ∙ sym (ap (take (suc n)) (drop-cons l k 0 (omega arith)))
-
--- so a list of n numbers is what stands at its n places
-pub spelled : (l : List ℕ) (n : ℕ) → length l ≡ n → bytesAt l (from 0 n) ≡ l
-spelled l n h = in-a-row l 0 n (omega arith) ∙ take-all n l (omega arith)
+use Rattle.curves.specs.Curves.{steps, words}
+use Rattle.curves.specs.Planned.{Curve, planned, bytesAt, asks}
+use Rattle.plans.specs.Plans.{held, decoded}
+use Rattle.curves.proofs.Registers.{planned-count}
 
 -- what stands behind a base
 pub shifted : (l : List ℕ) (base k n : ℕ) → bytesAt (drop base l) (from k n) ≡ bytesAt l (from (base + k) n)
@@ -34,16 +24,6 @@ shifted l base k zero = refl
 shifted l base k (suc n) =
     ap₂ (λ (b : ℕ) (m : List ℕ). b ∷ m) (getD-drop base l k 0)
     (shifted l base (suc k) n ∙ ap (λ (first : ℕ). bytesAt l (from first n)) (add-suc base k))
-
--- a plan asks what the curve of its registers asks
-pub planned-duty : (plan : Plan) (t : ℕ) → length (plan .temperatures) ≡ 4
-    → slope 255 (points (map degree (plan .temperatures)) (plan .duties)) (degree (plan .critical)) (degree t)
-    ≡ asks Nct7802y (planned Nct7802y plan) t
-planned-duty plan t h =
-    rw (take-at (plan .temperatures) (plan .critical ∷ []) 4 h, getD-at (plan .temperatures) (plan .critical) [] 0 4 h)
-
-pub planned-count : (plan : Plan) (t : ℕ) → steps (plan .bounds) (plan .counts) t ≡ asks F75373s (planned F75373s plan) t
-planned-count plan t = rw (words-halves (plan .counts))
 
 -- the body that begins at a base asks what the registers of the table there ask
 base-asks : (chip : Chip) (table base : ℕ) (image : List ℕ) (t : ℕ)

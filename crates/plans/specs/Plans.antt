@@ -1,10 +1,10 @@
--- "Plans and what they ask": what a plan is, which plans are accepted, what a plan and an image ask; and the contracts of `plans`.
+-- "Plans and what they ask": which plans are accepted, what a plan and an image ask; and the contracts of `plans`.
 -- Assumes nothing.
 use Prim.Native.Nat.{ℕ}
 use mathlib.Core.Path.{_≡_}
-use mathlib.Core.Bool.{Bool, true, not, _&&_}
-use mathlib.Core.List.{List, [], _∷_, _++_, map}
-use lib.ListN.{getD, take, replicate}
+use mathlib.Core.Bool.{Bool, true, not}
+use mathlib.Core.List.{List, [], _∷_}
+use lib.ListN.{getD, replicate}
 use Rattle.refusal.specs.declared.Outcome.{Outcome}
 use Rattle.refusal.specs.Refusals.{numberOf}
 use Rattle.refusal.specs.Answers.{tells}
@@ -13,26 +13,11 @@ use Rattle.cards.specs.declared.Chip.{Chip}
 use Rattle.cards.specs.declared.Chip.the-variants.{Nct7802y, F75373s, Nct80}
 use Rattle.cards.specs.Rows.{Table, from}
 use Rattle.cards.specs.Cards.{chipOf, whenKnown, unknown, noTable, notAnImage, tableOf}
-use Rattle.plans.specs.declared.Plan.{Plan}
+use Rattle.curves.specs.declared.Plan.{Plan}
+use Rattle.curves.specs.Curves.{words}
+use Rattle.curves.specs.Planned.{Curve, planned, bytesAt, asks, temperaturesInOrder, speedsInOrder}
 use Rattle.plans.specs.declared.Asked.{Asked}
 use Rattle.plans.specs.declared.Asked.the-variants as asked
-use Rattle.plans.specs.Curves.{degree, points, slope, steps, halves, words}
-use Rattle.plans.specs.Orders.{rising, falling, neverFalls, lastAtMost}
-
--- A curve as a fan table's registers hold it, in register order: its settings, then its speeds.
-pub record Curve : Type 0 where
-  pub settings : List ℕ
-  pub speeds : List ℕ
-
--- the curve of a plan: "the body in the register order"
-abbrev pub planned : Chip → Plan → Curve
-planned Nct7802y plan = record { settings = plan .temperatures ++ (plan .critical ∷ []); speeds = plan .duties }
-planned F75373s plan = record { settings = plan .bounds; speeds = halves (plan .counts) }
-planned Nct80 plan = record { settings = []; speeds = [] }
-
--- the bytes that stand at positions
-abbrev pub bytesAt : List ℕ → List ℕ → List ℕ
-bytesAt bytes positions = map (λ position. getD bytes position 0) positions
 
 -- the curve that a table's registers hold in an image
 abbrev pub held : Table → List ℕ → Curve
@@ -74,31 +59,6 @@ decoded Nct80 table body =
       bounds = zeros 4;
       counts = zeros 5;
     }
-
--- n temperatures, then critical; "at T, from -128 to 127, for any values, ordered or not"
-abbrev pub askedDuty : ℕ → ℕ → Curve → ℕ → ℕ
-askedDuty full n curve t =
-    slope full (points (map degree (take n (curve .settings))) (curve .speeds)) (degree (getD (curve .settings) n 0)) (degree t)
-
--- The speed that a curve asks of its chip at a temperature byte: the duty of chip 1, the count of chip 2. "a curve's meaning below is that of the
--- chip in its curve mode": fan mode bits are not asked.
-abbrev pub asks : Chip → Curve → ℕ → ℕ
-asks Nct7802y curve t = askedDuty 255 4 curve t
-asks F75373s curve t = steps (curve .settings) (words (curve .speeds)) t
-asks Nct80 curve t = 0
-
--- "Accepted if T1 < T2 < T3 < T4, T4 at most critical (else 6)"; "Accepted if B1 > B2 > B3 > B4 (else 6)"
-abbrev pub temperaturesInOrder : Chip → Plan → Bool
-temperaturesInOrder Nct7802y plan =
-    rising (map degree (plan .temperatures)) && lastAtMost (map degree (plan .temperatures)) (degree (plan .critical))
-temperaturesInOrder F75373s plan = falling (plan .bounds)
-temperaturesInOrder Nct80 plan = true
-
--- "the duties never fall from FL1 to FL4 (else 7)"; "counts never fall from C1 to C5 (else 7)"
-abbrev pub speedsInOrder : Chip → Plan → Bool
-speedsInOrder Nct7802y plan = neverFalls (plan .duties)
-speedsInOrder F75373s plan = neverFalls (plan .counts)
-speedsInOrder Nct80 plan = true
 
 -- refusal 6: "temperatures of the plan are out of order"
 abbrev pub temperaturesOut : Plan → Bool

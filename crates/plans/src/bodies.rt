@@ -1,13 +1,14 @@
 // The values of a body, which holds a fan table's bytes in register order.
-use crate::Plan;
+use curves::Plan;
 ghost use mathlib.Core.Path.{_≡_};
 ghost use mathlib.Core.List.{[]};
 ghost use Prim.Native.Nat.{_+_, _*_, _≤_};
 ghost use lib.ListN.{getD};
 ghost use Rattle.cards.specs.Rows.{from};
-ghost use Rattle.plans.specs.Curves.{words};
+ghost use Rattle.curves.specs.Curves.{words};
 ghost use Rattle.cards.specs.declared.Chip.the-variants.{Nct80};
-ghost use Rattle.plans.specs.Plans.{bytesAt, decoded};
+ghost use Rattle.curves.specs.Planned.{bytesAt};
+ghost use Rattle.plans.specs.Plans.{decoded};
 
 // The byte at a place, and 0 behind the end.
 pub(crate) fn byte_at(body: &[u8], at: usize) -> u8

@@ -1,13 +1,10 @@
 // Cooling plans: which are accepted, and what speed a plan, or the curve in an image, asks at a temperature.
 mod bodies;
-mod degrees;
-mod orders;
-mod slope;
-mod steps;
 
 use cards::Chip;
 use cards::Named;
 use cards::Place;
+use curves::Plan;
 use refusal::Outcome;
 use refusal::Refusal;
 ghost use mathlib.Core.Path.{_≡_};
@@ -16,20 +13,8 @@ ghost use mathlib.Core.List.{[], _∷_};
 ghost use Rattle.refusal.specs.Checks.{first};
 ghost use Rattle.refusal.specs.Answers.{tells};
 ghost use Rattle.cards.specs.Cards.{hasTable};
-ghost use Rattle.plans.specs.Plans.{planned, asks, temperaturesInOrder, speedsInOrder, Judges, AsksPlan, AsksImage, Decodes};
-
-// A plan of either chip. Temperatures are bytes as their registers hold them: two's complement for chip 1, unsigned for chip 2.
-pub struct Plan {
-    pub chip: u8,
-    pub table: u8,
-    // Chip 1: T1 to T4, critical, FL1 to FL4.
-    pub temperatures: [u8; 4],
-    pub critical: u8,
-    pub duties: [u8; 4],
-    // Chip 2: B1 to B4, C1 to C5.
-    pub bounds: [u8; 4],
-    pub counts: [u16; 5],
-}
+ghost use Rattle.curves.specs.Planned.{temperaturesInOrder, speedsInOrder};
+ghost use Rattle.plans.specs.Plans.{Judges, AsksPlan, AsksImage, Decodes};
 
 // The duty of chip 1, or the count of chip 2.
 pub enum Asked {
@@ -44,10 +29,10 @@ fn judge_known(chip: Chip, plan: Plan) -> Outcome
     if let Place::Nowhere = cards::table_at(chip, plan.table) {
         return Outcome::Refused(Refusal::NoSuchTable);
     }
-    if !orders::temperatures_in_order(chip, plan) {
+    if !curves::temperatures_in_order(chip, plan) {
         return Outcome::Refused(Refusal::TemperaturesOutOfOrder);
     }
-    if !orders::speeds_in_order(chip, plan) {
+    if !curves::speeds_in_order(chip, plan) {
         return Outcome::Refused(Refusal::SpeedsOutOfOrder);
     }
     Outcome::Accepted
@@ -63,25 +48,6 @@ pub fn judge(plan: Plan) -> Outcome
     }
 }
 
-// The speed that a plan's curve asks of its chip.
-fn speed_of(chip: Chip, plan: Plan, t: u8) -> u16
-    ensures { λ r. ⌜ r ≡ asks chip (planned chip plan) t ⌝ }
-{
-    match chip {
-        Chip::Nct7802y => {
-            let temperatures = plan.temperatures;
-            let duties = plan.duties;
-            slope::asked_duty(temperatures, plan.critical, duties, t) as u16
-        }
-        Chip::F75373s => {
-            let bounds = plan.bounds;
-            let counts = plan.counts;
-            steps::asked_count(bounds, counts, t)
-        }
-        Chip::Nct80 => 0,
-    }
-}
-
 // The speed that a plan asks at a temperature, ordered or not.
 pub fn asked_of_plan(plan: Plan, t: u8) -> Asked
     ensures { λ r. ⌜ AsksPlan plan t r ⌝ }
@@ -92,7 +58,7 @@ pub fn asked_of_plan(plan: Plan, t: u8) -> Asked
             if let Place::Nowhere = cards::table_at(chip, plan.table) {
                 return Asked::Refused(Refusal::NoSuchTable);
             }
-            Asked::Speed(speed_of(chip, plan, t))
+            Asked::Speed(curves::speed_of(chip, plan, t))
         }
     }
 }
@@ -137,7 +103,7 @@ pub fn asked_of_image(chip: u8, table: u8, image: &[u8], t: u8) -> Asked
                     return Asked::Refused(Refusal::NotAnImage);
                 }
                 let at = base as usize;
-                Asked::Speed(speed_of(known, plan_of_body(known, table, &image[at..]), t))
+                Asked::Speed(curves::speed_of(known, plan_of_body(known, table, &image[at..]), t))
             }
         },
     }

@@ -14,11 +14,12 @@ use Rattle.cards.specs.Rows.{Table, from, positions}
 use Rattle.cards.specs.Cards.{chipOf, hasTable, tableOf, tableFrom, baseOf}
 use Rattle.cards.proofs.Numbers.{chip-number}
 use Rattle.cards.proofs.Tables.{table-at-base}
-use Rattle.plans.specs.declared.Plan.{Plan}
-use Rattle.plans.specs.Curves.{halves, words}
-use Rattle.plans.specs.Plans.{planned, bytesAt, zeros, decoded, planChecks}
-use Rattle.plans.proofs.StepLaws.{words-halves, halves-words}
-use Rattle.plans.proofs.Registers.{in-a-row, spelled}
+use Rattle.curves.specs.declared.Plan.{Plan}
+use Rattle.curves.specs.Curves.{halves, words}
+use Rattle.curves.specs.Planned.{planned, bytesAt}
+use Rattle.plans.specs.Plans.{zeros, decoded, planChecks}
+use Rattle.curves.proofs.StepLaws.{words-halves, halves-words}
+use Rattle.curves.proofs.Registers.{in-a-row, spelled}
 use Rattle.records.specs.Records.{body, bodyLength, recordLength, recordOf, ownOf, Sized}
 
 -- "9 bytes for chip 1, 14 for chip 2": as many as each of the chip's tables has registers

@@ -19,8 +19,9 @@ use Rattle.cards.specs.declared.Chip.{Chip}
 use Rattle.cards.specs.declared.Named.the-variants.{Known}
 use Rattle.cards.specs.Cards.{chipOf, whenKnown, unknown, noTable, hasTable}
 use Rattle.cards.proofs.Numbers.{chip-number, chip-known}
-use Rattle.plans.specs.declared.Plan.{Plan}
-use Rattle.plans.specs.Plans.{planned, decoded, temperaturesOut, speedsOut, planChecks}
+use Rattle.curves.specs.declared.Plan.{Plan}
+use Rattle.curves.specs.Planned.{planned}
+use Rattle.plans.specs.Plans.{decoded, temperaturesOut, speedsOut, planChecks}
 use Rattle.plans.proofs.Laws.{accepted, accepted-known}
 use Rattle.records.specs.declared.Found.{Found}
 use Rattle.records.specs.Records.{body, bodyLength, recordLength, recordOf, encoded, chipIn, tableIn, bodyIn, noPlan, planIn, headerCutShort, wrongMark, bodyCutShort, recordChecks, roomChecks, writeChecks, bodyChecks, ownOf, own, Sized, Reads, Writes}

@@ -1,9 +1,9 @@
 // The bytes of a record: the mark, chip, table, then the body in register order.
-use plans::Plan;
+use curves::Plan;
 ghost use mathlib.Core.Path.{_≡_};
 ghost use Prim.Native.Nat.{_/_, _%_};
 ghost use Rattle.cards.specs.declared.Chip.the-variants.{Nct7802y, F75373s};
-ghost use Rattle.plans.specs.Curves.{halves};
+ghost use Rattle.curves.specs.Curves.{halves};
 ghost use Rattle.records.specs.Records.{recordOf};
 
 pub(crate) fn nct7802y(plan: Plan) -> [u8; 13]

@@ -5,7 +5,7 @@ mod output;
 use cards::Chip;
 use cards::Named;
 use cards::Place;
-use plans::Plan;
+use curves::Plan;
 use refusal::Count;
 use refusal::Outcome;
 use refusal::Refusal;

@@ -23,7 +23,7 @@ use Rattle.cards.specs.declared.Named.{Named}
 use Rattle.cards.specs.declared.Named.the-variants.{Known, Unknown}
 use Rattle.cards.specs.Cards.{chipOf, whenKnown}
 use Rattle.identities.specs.Identities.{identityChecks, Confirms}
-use Rattle.plans.specs.declared.Plan.{Plan}
+use Rattle.curves.specs.declared.Plan.{Plan}
 use Rattle.plans.specs.Plans.{planChecks}
 use Rattle.scripts.specs.declared.making.Script.{Script}
 use Rattle.scripts.specs.Scripts.{Pair, flat, played, scriptOf, scriptFor, scriptChecks, startChecks, playChecks, Scripts, Plays}

@@ -11,10 +11,10 @@ use Rattle.cards.specs.declared.Chip.the-variants.{Nct7802y, F75373s, Nct80}
 use Rattle.cards.specs.Rows.{Table}
 use Rattle.cards.specs.Cards.{hasTable, tableOf}
 use Rattle.cards.proofs.Tables.{table-number, table-at-base}
-use Rattle.plans.specs.declared.Plan.{Plan}
-use Rattle.plans.specs.Curves.{halves}
-use Rattle.plans.specs.Orders.{Each, fulls, MoreDuty, LessCount}
-use Rattle.plans.specs.Plans.{planned}
+use Rattle.curves.specs.declared.Plan.{Plan}
+use Rattle.curves.specs.Curves.{halves}
+use Rattle.curves.specs.Orders.{Each, fulls, MoreDuty, LessCount}
+use Rattle.curves.specs.Planned.{planned}
 use Rattle.records.specs.Records.{Sized}
 use Rattle.records.proofs.Encoding.{halves-length}
 use Rattle.scripts.specs.Scripts.{writes, fullOf, scriptOf}

@@ -13,7 +13,7 @@ use Rattle.cards.specs.declared.Chip.{Chip}
 use Rattle.cards.specs.declared.Chip.the-variants.{Nct7802y, F75373s, Nct80}
 use Rattle.cards.specs.declared.Named.the-variants.{Known}
 use Rattle.cards.specs.Cards.{chipOf, hasTable}
-use Rattle.plans.specs.declared.Plan.{Plan}
+use Rattle.curves.specs.declared.Plan.{Plan}
 use Rattle.records.specs.Records.{Sized}
 use Rattle.scripts.specs.Scripts.{scriptOf, scriptLength, scriptFor, scriptChecks, Scripts}
 use Rattle.scripts.proofs.Prepared.{describes-plan}

@@ -10,7 +10,7 @@ use Rattle.refusal.specs.declared.Count.the-variants as counted
 use Rattle.refusal.proofs.Answers.{tellsCount-injective}
 use Rattle.refusal.proofs.Passed.{told-passed}
 use Rattle.identities.specs.Identities.{identityChecks}
-use Rattle.plans.specs.declared.Plan.{Plan}
+use Rattle.curves.specs.declared.Plan.{Plan}
 use Rattle.plans.specs.Plans.{planChecks}
 use Rattle.scripts.specs.Scripts.{scriptFor, playChecks, Plays}
 use Rattle.scripts.proofs.Answers.{same-checks}

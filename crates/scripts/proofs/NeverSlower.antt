@@ -19,11 +19,12 @@ use Rattle.cards.specs.declared.Named.{Named}
 use Rattle.cards.specs.declared.Named.the-variants.{Known}
 use Rattle.cards.specs.Rows.{Table, positions}
 use Rattle.cards.specs.Cards.{chipOf, whenKnown, hasTable, tableOf}
-use Rattle.plans.specs.declared.Plan.{Plan}
+use Rattle.curves.specs.declared.Plan.{Plan}
 use Rattle.plans.specs.declared.Asked.{Asked}
 use Rattle.plans.specs.declared.Asked.the-variants.{Speed}
-use Rattle.plans.specs.Orders.{fulls}
-use Rattle.plans.specs.Plans.{Curve, planned, held, asks, AsksImage, AsksPlan}
+use Rattle.curves.specs.Orders.{fulls}
+use Rattle.curves.specs.Planned.{Curve, planned, asks}
+use Rattle.plans.specs.Plans.{held, AsksImage, AsksPlan}
 use Rattle.plans.proofs.Unique.{tellsAsked-injective}
 use Rattle.scripts.specs.Scripts.{Pair, writes, fullOf, script, scriptOf, played, playChecks, Plays}
 use Rattle.scripts.specs.Rules.{Rule}

@@ -10,8 +10,8 @@ use lib.ListN.{length, getD, length-append, length-replicate, getD-replicate, Li
 use lib.Seq.{getD-append-add}
 use Rattle.cards.specs.Rows.{Table, from}
 use Rattle.cards.proofs.Columns.{run-length, run-at}
-use Rattle.plans.specs.Orders.{fulls}
-use Rattle.plans.specs.Plans.{Curve}
+use Rattle.curves.specs.Orders.{fulls}
+use Rattle.curves.specs.Planned.{Curve}
 use Rattle.records.specs.Records.{body}
 use Rattle.scripts.specs.Scripts.{Pair, writes, script}
 

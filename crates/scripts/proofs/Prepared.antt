@@ -22,8 +22,9 @@ use Rattle.cards.specs.declared.Named.the-variants.{Known, Unknown}
 use Rattle.cards.specs.Rows.{Table}
 use Rattle.cards.specs.Cards.{chipOf, whenKnown, hasTable, tableFrom, baseOf}
 use Rattle.cards.proofs.Tables.{table-number, table-at-base}
-use Rattle.plans.specs.declared.Plan.{Plan}
-use Rattle.plans.specs.Plans.{Curve, planned, planChecks}
+use Rattle.curves.specs.declared.Plan.{Plan}
+use Rattle.curves.specs.Planned.{Curve, planned}
+use Rattle.plans.specs.Plans.{planChecks}
 use Rattle.records.specs.Records.{Sized, header, body, recordOf, encoded, roomChecks, writeChecks, Writes}
 use Rattle.records.proofs.Encoding.{record-of-plan}
 use Rattle.scripts.specs.declared.making.Script.{Script}

@@ -7,11 +7,11 @@ use mathlib.Core.List.{List, map}
 use lib.ListN.{length, getD, take, replicate}
 use Rattle.cards.specs.declared.Chip.{Chip}
 use Rattle.cards.specs.declared.Chip.the-variants.{Nct7802y, F75373s, Nct80}
-use Rattle.plans.specs.Curves.{degree}
-use Rattle.plans.specs.Orders.{Each, MoreDuty, LessCount}
-use Rattle.plans.specs.Plans.{Curve, asks, askedDuty}
-use Rattle.plans.proofs.SlopeLaws.{slope-faster, slope-full, slope-at-most}
-use Rattle.plans.proofs.StepLaws.{steps-faster, steps-full}
+use Rattle.curves.specs.Curves.{degree}
+use Rattle.curves.specs.Orders.{Each, MoreDuty, LessCount}
+use Rattle.curves.specs.Planned.{Curve, asks, askedDuty}
+use Rattle.curves.proofs.SlopeLaws.{slope-faster, slope-full, slope-at-most}
+use Rattle.curves.proofs.StepLaws.{steps-faster, steps-full}
 use Rattle.scripts.specs.Rules.{Rule}
 
 abbrev curve : List ℕ → List ℕ → Curve

@@ -8,8 +8,8 @@ use mathlib.Core.List.{List, [], _∷_, _++_, map}
 use lib.Dec.{eqb}
 use lib.ListN.{length, take, replicate, length-replicate}
 use Rattle.cards.specs.Rows.{Table}
-use Rattle.plans.specs.Orders.{Each, fulls}
-use Rattle.plans.specs.Plans.{Curve}
+use Rattle.curves.specs.Orders.{Each, fulls}
+use Rattle.curves.specs.Planned.{Curve}
 use Rattle.scripts.specs.Scripts.{Pair, writes, script}
 use Rattle.scripts.specs.Rules.{Rule}
 use Rattle.scripts.specs.NeverSlower.{Outside}

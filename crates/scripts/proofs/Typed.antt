@@ -12,8 +12,8 @@ use denote.Laws.{Is}
 use denote.Plain.{UInt}
 use denote.Shadow.{shadow}
 use denote.Struct.Declared.{row}
-use Rattle.plans.specs.declared.Plan.{Plan}
-use Rattle.plans.proofs.Plan as declared
+use Rattle.curves.specs.declared.Plan.{Plan}
+use Rattle.curves.proofs.Plan as declared
 use Rattle.scripts.specs.NeverSlower.{Within, Typed}
 use Rattle.scripts.proofs.Played.{all-of}
 

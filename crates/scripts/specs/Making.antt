@@ -11,7 +11,7 @@ use Rattle.refusal.specs.Checks.{first}
 use Rattle.cards.specs.declared.Chip.{Chip}
 use Rattle.cards.specs.declared.Chip.the-variants.{Nct7802y, F75373s, Nct80}
 use Rattle.cards.specs.Cards.{chipOf, whenKnown, hasTable, baseOf}
-use Rattle.plans.specs.declared.Plan.{Plan}
+use Rattle.curves.specs.declared.Plan.{Plan}
 use Rattle.plans.specs.Plans.{planChecks}
 use Rattle.scripts.specs.declared.making.Script.{Script}
 use Rattle.scripts.specs.declared.making.Pair as code

@@ -12,10 +12,10 @@ use Rattle.cards.specs.declared.Named.the-variants.{Known}
 use Rattle.cards.specs.Rows.{positions}
 use Rattle.cards.specs.Cards.{chipOf, tableOf}
 use Rattle.identities.specs.Identities.{identityChecks}
-use Rattle.plans.specs.declared.Plan.{Plan}
+use Rattle.curves.specs.declared.Plan.{Plan}
 use Rattle.plans.specs.declared.Asked.{Asked}
 use Rattle.plans.specs.declared.Asked.the-variants.{Speed, Refused}
-use Rattle.plans.specs.Orders.{MoreDuty, LessCount}
+use Rattle.curves.specs.Orders.{MoreDuty, LessCount}
 use Rattle.plans.specs.Plans.{planChecks, AsksImage, AsksPlan}
 use Rattle.records.specs.Records.{Sized}
 use Rattle.scripts.specs.Scripts.{scriptFor}

@@ -2,7 +2,7 @@
 -- Assumes nothing.
 use Prim.Native.Nat.{ℕ}
 use mathlib.Core.List.{List}
-use Rattle.plans.specs.Orders.{Each, fulls}
+use Rattle.curves.specs.Orders.{Each, fulls}
 
 -- A chip's rule. `Fast a b`: a is at least as fast as b, of two speeds asked and of two bytes of a speed register; `slower a b`: the slower of two.
 -- It asks at least as fast where every speed register is at least as fast (`rises`), and where every speed register is full it asks

@@ -14,10 +14,11 @@ use Rattle.cards.specs.Rows.{Table}
 use Rattle.cards.specs.Cards.{chipOf, whenKnown, tableOf, notAnImage}
 use Rattle.images.specs.Bytes.{written}
 use Rattle.identities.specs.Identities.{unconfirmed}
-use Rattle.plans.specs.declared.Plan.{Plan}
-use Rattle.plans.specs.Curves.{points}
-use Rattle.plans.specs.Orders.{fulls}
-use Rattle.plans.specs.Plans.{Curve, planned, planChecks}
+use Rattle.curves.specs.declared.Plan.{Plan}
+use Rattle.curves.specs.Curves.{points}
+use Rattle.curves.specs.Orders.{fulls}
+use Rattle.curves.specs.Planned.{Curve, planned}
+use Rattle.plans.specs.Plans.{planChecks}
 
 -- "A script is pairs of address and byte."
 abbrev pub Pair : Type 0

@@ -3,7 +3,7 @@ mod making;
 mod output;
 mod playing;
 
-use plans::Plan;
+use curves::Plan;
 use refusal::Count;
 use refusal::Outcome;
 use refusal::Refusal;

@@ -2,7 +2,7 @@
 use cards::Chip;
 use cards::Named;
 use cards::Place;
-use plans::Plan;
+use curves::Plan;
 use refusal::Count;
 use refusal::Outcome;
 ghost use Prim.Native.Nat.{_+_, _<_};

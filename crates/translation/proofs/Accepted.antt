@@ -16,7 +16,7 @@ use Rattle.cards.specs.declared.Named.{Named}
 use Rattle.cards.specs.declared.Named.the-variants.{Known, Unknown}
 use Rattle.cards.specs.Cards.{chipOf, hasTable}
 use Rattle.cards.proofs.Tables.{table-number}
-use Rattle.plans.specs.declared.Plan.{Plan}
+use Rattle.curves.specs.declared.Plan.{Plan}
 use Rattle.plans.specs.Plans.{decoded, temperaturesOut, speedsOut, planChecks}
 use Rattle.records.specs.Records.{bodyLength, recordLength, recordChecks, chipIn, tableIn, bodyIn, planIn}
 use Rattle.records.proofs.Encoding.{decoded-sized}

@@ -10,7 +10,7 @@ use borrow.Author.Tests.{ltb-true, ltb-false, eqb-true}
 use lib.Dec.{eqb, ltb}
 use lib.ListN.{length, drop, length-append, length-drop}
 use Rattle.refusal.specs.Checks.{Check, first}
-use Rattle.plans.specs.declared.Plan.{Plan}
+use Rattle.curves.specs.declared.Plan.{Plan}
 use Rattle.records.specs.Records.{planIn, recordChecks}
 use Rattle.scripts.specs.Scripts.{scriptFor}
 use Rattle.translation.specs.Text.{headerLine, writeLines, refusalIn, usedIn, planText, refusedLine, endLine, tooLong, textFrom, textOf}

@@ -16,7 +16,7 @@ use Rattle.refusal.proofs.Passed.{first-passed, told-passed}
 use Rattle.refusal.specs.declared.Count.{Count}
 use Rattle.refusal.specs.declared.Count.the-variants as counted
 use Rattle.refusal.specs.Answers.{tellsCount}
-use Rattle.plans.specs.declared.Plan.{Plan}
+use Rattle.curves.specs.declared.Plan.{Plan}
 use Rattle.plans.specs.Plans.{planChecks}
 use Rattle.scripts.specs.Scripts.{Pair, flat, scriptFor, scriptChecks, Scripts}
 use Rattle.translation.specs.Text.{headerLine, writeLines, planText}

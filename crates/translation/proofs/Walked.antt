@@ -13,7 +13,7 @@ use Rattle.refusal.specs.Refusals.{numberOf}
 use Rattle.refusal.proofs.Numbers.{numberOf-positive}
 use Rattle.refusal.specs.declared.Count.the-variants as counted
 use Rattle.refusal.specs.Answers.{tellsCount}
-use Rattle.plans.specs.declared.Plan.{Plan}
+use Rattle.curves.specs.declared.Plan.{Plan}
 use Rattle.plans.proofs.Registers.{to-the-end}
 use Rattle.records.specs.declared.Found.{Found}
 use Rattle.records.specs.Records.{planIn, noPlan, Reads}

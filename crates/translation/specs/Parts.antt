@@ -6,7 +6,7 @@ use mathlib.Core.List.{List, [], _∷_, _++_}
 use lib.ListN.{length, getD}
 use lib.Seq.{sets}
 use Rattle.refusal.specs.Checks.{first}
-use Rattle.plans.specs.declared.Plan.{Plan}
+use Rattle.curves.specs.declared.Plan.{Plan}
 use Rattle.plans.specs.Plans.{planChecks}
 use Rattle.scripts.specs.Scripts.{Pair, scriptFor}
 

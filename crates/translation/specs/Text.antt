@@ -11,7 +11,7 @@ use Rattle.refusal.specs.declared.Count.{Count}
 use Rattle.refusal.specs.Answers.{tellsCount}
 use Rattle.refusal.specs.Checks.{first, told, left}
 use Rattle.cards.specs.Cards.{chipOf, whenKnown}
-use Rattle.plans.specs.declared.Plan.{Plan}
+use Rattle.curves.specs.declared.Plan.{Plan}
 use Rattle.records.specs.Records.{chipIn, planIn, recordLength, recordChecks, roomChecks}
 use Rattle.scripts.specs.Scripts.{Pair, scriptFor}
 use Rattle.translation.specs.Words.{ascii, hexadecimal, decimal}

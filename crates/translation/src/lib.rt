@@ -3,7 +3,7 @@ mod lines;
 mod numbers;
 mod output;
 
-use plans::Plan;
+use curves::Plan;
 use refusal::Count;
 use refusal::Refusal;
 ghost use Prim.Native.Nat.{_≤_};

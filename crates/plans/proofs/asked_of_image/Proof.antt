@@ -69,7 +69,7 @@ returns-4 c =
     let known = k .before .before .before .before .known .given .0 .0 in
     let a = k .before .before .before .before .before .before .before .before .args in
     let asked = body-asks known (a .table) (k .base .given .0 .0) (a .image .now) (a .t) (found .0) (found .1) in
-    record { answer = rw (e, found .0, eq-eqb _ _ (i .if1 .left)) (ap (λ (speed : ℕ). (0, speed)) (c .speed-of .ensures ∙ rw (c .before .plan-of-body .ensures .answer) asked)) }
+    record { answer = rw (e, found .0, eq-eqb _ _ (i .if1 .left)) (ap (λ (speed : ℕ). (0, speed)) (c .speed-of .ensures .answer ∙ rw (c .before .plan-of-body .ensures .answer) asked)) }
 
 pub asked-of-image-spec : {M : Type 1} → statement M
 asked-of-image-spec =

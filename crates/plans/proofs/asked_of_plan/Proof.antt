@@ -42,7 +42,7 @@ returns-3 c =
     let k = c .before .before .before in
     let e = sym (k .before .before .before .before .chip-of .ensures .answer) ∙ k .before .before .chip .given .1 in
     record {
-      answer = rw (e, place-found _ (k .table-at .ensures) (c .before .enum-told3 .given .1) .0) (ap (λ (speed : ℕ). (0, speed)) (c .speed-of .ensures));
+      answer = rw (e, place-found _ (k .table-at .ensures) (c .before .enum-told3 .given .1) .0) (ap (λ (speed : ℕ). (0, speed)) (c .speed-of .ensures .answer));
     }
 
 pub asked-of-plan-spec : {M : Type 1} → statement M

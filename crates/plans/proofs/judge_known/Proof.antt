@@ -26,7 +26,7 @@ returns-2 : tie.Need-returns-2
 returns-2 c =
     let k = c .before .before in
     rw
-    (place-found _ (k .before .before .table-at .ensures) (k .enum-told2 .given .1) .0, sym (c .before .temperatures-in-order .ensures) ∙ not-true _ (c .if1 .taken))
+    (place-found _ (k .before .before .table-at .ensures) (k .enum-told2 .given .1) .0, sym (c .before .temperatures-in-order .ensures .answer) ∙ not-true _ (c .if1 .taken))
 
 speeds-in-order-requires : tie.Need-speeds-in-order-requires
 speeds-in-order-requires c κs = search needs
@@ -35,13 +35,13 @@ returns-3 : tie.Need-returns-3
 returns-3 c =
     let k = c .before .before .before .before in
     rw
-    (place-found _ (k .before .before .table-at .ensures) (k .enum-told2 .given .1) .0, sym (c .before .before .before .temperatures-in-order .ensures) ∙ not-false _ (c .before .before .if1 .left), sym (c .before .speeds-in-order .ensures) ∙ not-true _ (c .if2 .taken))
+    (place-found _ (k .before .before .table-at .ensures) (k .enum-told2 .given .1) .0, sym (c .before .before .before .temperatures-in-order .ensures .answer) ∙ not-false _ (c .before .before .if1 .left), sym (c .before .speeds-in-order .ensures .answer) ∙ not-true _ (c .if2 .taken))
 
 returns-4 : tie.Need-returns-4
 returns-4 c =
     let k = c .before .before .before .before in
     rw
-    (place-found _ (k .before .before .table-at .ensures) (k .enum-told2 .given .1) .0, sym (c .before .before .before .temperatures-in-order .ensures) ∙ not-false _ (c .before .before .if1 .left), sym (c .before .speeds-in-order .ensures) ∙ not-false _ (c .if2 .left))
+    (place-found _ (k .before .before .table-at .ensures) (k .enum-told2 .given .1) .0, sym (c .before .before .before .temperatures-in-order .ensures .answer) ∙ not-false _ (c .before .before .if1 .left), sym (c .before .speeds-in-order .ensures .answer) ∙ not-false _ (c .if2 .left))
 
 pub judge-known-spec : {M : Type 1} → statement M
 judge-known-spec =

@@ -10,7 +10,7 @@ use Rattle.refusal.specs.Checks.{first}
 use Rattle.refusal.specs.Answers.{tells}
 use Rattle.cards.proofs.Tables.{place-found, place-missed}
 use Rattle.plans.specs.Plans.{decoded, planChecks}
-use Rattle.plans.specs.declared.Plan.{Plan}
+use Rattle.curves.specs.declared.Plan.{Plan}
 use Rattle.records.specs.Records.{bodyLength, recordLength, noPlan, bodyChecks}
 use Rattle.records.proofs.Answers.{body-refused, body-judged}
 use borrow.Author.Needs.{needs}

@@ -1,8 +1,8 @@
 -- `records::layout::halves` meets its contract: five counts are what stands at their five places.
 -- Assumes nothing.
 use mathlib.Core.Path.{ap}
-use Rattle.plans.specs.Curves.{halves}
-use Rattle.plans.proofs.Registers.{spelled}
+use Rattle.curves.specs.Curves.{halves}
+use Rattle.curves.proofs.Registers.{spelled}
 use borrow.Author.Needs.{needs}
 use Rattle.records.proofs.layout.halves.Statement.{statement}
 use Rattle.records.proofs.layout.halves.Tie as tie

@@ -5,7 +5,7 @@ use lib.ListN.{length, length-map}
 use mathlib.Core.List.{List, [], _∷_, _++_}
 use mathlib.Core.Path.{_≡_, sym, ap₂, _∙_}
 use Prim.Native.Nat.{ℕ}
-use Rattle.plans.proofs.Registers.{spelled}
+use Rattle.curves.proofs.Registers.{spelled}
 use borrow.Author.Needs.{needs}
 use Rattle.records.proofs.layout.nct7802y.Statement.{statement}
 use Rattle.records.proofs.layout.nct7802y.Tie as tie

@@ -1,0 +1,34 @@
+-- A curve in register order: a list is spelled by its places, and a plan asks what its curve does.
+-- Assumes nothing.
+use Prim.Native.Nat.{ℕ, zero, suc, _+_, _≤_}
+use native.Mathlib.Omega.{arith}
+use mathlib.Core.Path.{_≡_, refl, sym, ap, _∙_}
+use mathlib.Core.List.{List, [], _∷_, map}
+use lib.ListN.{length, getD, take, drop}
+use lib.Seq.{drop-cons, take-all, take-at, getD-at}
+use Rattle.cards.specs.Rows.{from}
+use Rattle.cards.specs.declared.Chip.the-variants.{Nct7802y, F75373s}
+use Rattle.curves.specs.declared.Plan.{Plan}
+use Rattle.curves.specs.Curves.{degree, points, slope, steps}
+use Rattle.curves.specs.Planned.{planned, bytesAt, asks}
+use Rattle.curves.proofs.StepLaws.{words-halves}
+
+-- what stands at n places in a row is a part of the list
+pub in-a-row : (l : List ℕ) (k n : ℕ) → k + n ≤ length l → bytesAt l (from k n) ≡ take n (drop k l)
+in-a-row l k zero h = refl
+in-a-row l k (suc n) h =
+    ap (λ (m : List ℕ). getD l k 0 ∷ m) (in-a-row l (suc k) n (omega arith)) ∙ sym (ap (take (suc n)) (drop-cons l k 0 (omega arith)))
+
+-- so a list of n numbers is what stands at its n places
+pub spelled : (l : List ℕ) (n : ℕ) → length l ≡ n → bytesAt l (from 0 n) ≡ l
+spelled l n h = in-a-row l 0 n (omega arith) ∙ take-all n l (omega arith)
+
+-- a plan asks what the curve of its registers asks
+pub planned-duty : (plan : Plan) (t : ℕ) → length (plan .temperatures) ≡ 4
+    → slope 255 (points (map degree (plan .temperatures)) (plan .duties)) (degree (plan .critical)) (degree t)
+    ≡ asks Nct7802y (planned Nct7802y plan) t
+planned-duty plan t h =
+    rw (take-at (plan .temperatures) (plan .critical ∷ []) 4 h, getD-at (plan .temperatures) (plan .critical) [] 0 4 h)
+
+pub planned-count : (plan : Plan) (t : ℕ) → steps (plan .bounds) (plan .counts) t ≡ asks F75373s (planned F75373s plan) t
+planned-count plan t = rw (words-halves (plan .counts))
