@@ -1,8 +1,8 @@
--- `curves::yk_asked_of_image` meets its contract: it packs what the library answers.
+-- `asked::yk_asked_of_image` meets its contract: it packs what the library answers.
 -- Assumes nothing.
 use borrow.Author.Needs.{needs}
-use Rattle.clib.proofs.curves.yk_asked_of_image.Statement.{statement}
-use Rattle.clib.proofs.curves.yk_asked_of_image.Tie as tie
+use Rattle.clib.proofs.asked.yk_asked_of_image.Statement.{statement}
+use Rattle.clib.proofs.asked.yk_asked_of_image.Tie as tie
 
 asked-of-image-requires : tie.Need-asked-of-image-requires
 asked-of-image-requires c κs = search needs

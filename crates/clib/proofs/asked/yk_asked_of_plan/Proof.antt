@@ -1,8 +1,8 @@
--- `curves::yk_asked_of_plan` meets its contract: it packs what the library answers of the plan that crossed.
+-- `asked::yk_asked_of_plan` meets its contract: it packs what the library answers of the plan that crossed.
 -- Assumes nothing.
 use borrow.Author.Needs.{needs}
-use Rattle.clib.proofs.curves.yk_asked_of_plan.Statement.{statement}
-use Rattle.clib.proofs.curves.yk_asked_of_plan.Tie as tie
+use Rattle.clib.proofs.asked.yk_asked_of_plan.Statement.{statement}
+use Rattle.clib.proofs.asked.yk_asked_of_plan.Tie as tie
 
 plan-from-requires : tie.Need-plan-from-requires
 plan-from-requires c κs = search needs
