@@ -1,4 +1,4 @@
-// Whose an image is. Early answers, so that each register that an identity names stands on a line of its own.
+// Whose an image is: each register that an identity names stands on a line of its own.
 use cards::Chip;
 use cards::Named;
 use refusal::Outcome;
@@ -14,35 +14,21 @@ fn is_nct7802y(image: &[u8]) -> bool
     requires { ⌜ length (now image) ≡ 256 ⌝ }
     ensures { λ r. ⌜ r ≡ allHold (now (image .entry)) nct7802y.identity ⌝ }
 {
-    if image[0xFD] & 0xFF != 0x50 {
-        return false;
-    }
-    if image[0xFE] & 0xFF != 0xC3 {
-        return false;
-    }
-    if image[0xFF] & 0xF0 != 0x20 {
-        return false;
-    }
-    if image[0x05] & 0x1F != 0x00 {
-        return false;
-    }
-    image[0x08] & 0x3F == 0x00
+    (image[0xFD] & 0xFF == 0x50)
+        & (image[0xFE] & 0xFF == 0xC3)
+        & (image[0xFF] & 0xF0 == 0x20)
+        & (image[0x05] & 0x1F == 0x00)
+        & (image[0x08] & 0x3F == 0x00)
 }
 
 fn is_f75373s(image: &[u8]) -> bool
     requires { ⌜ length (now image) ≡ 256 ⌝ }
     ensures { λ r. ⌜ r ≡ allHold (now (image .entry)) f75373s.identity ⌝ }
 {
-    if image[0x5A] & 0xFF != 0x02 {
-        return false;
-    }
-    if image[0x5B] & 0xFF != 0x04 {
-        return false;
-    }
-    if image[0x5D] & 0xFF != 0x19 {
-        return false;
-    }
-    image[0x5E] & 0xFF == 0x34
+    (image[0x5A] & 0xFF == 0x02)
+        & (image[0x5B] & 0xFF == 0x04)
+        & (image[0x5D] & 0xFF == 0x19)
+        & (image[0x5E] & 0xFF == 0x34)
 }
 
 // No identity is known of the NCT80, so none is confirmed.

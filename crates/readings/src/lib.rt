@@ -21,13 +21,7 @@ pub enum Bytes {
 fn is_width(width: u8) -> bool
     ensures { λ r. ⌜ r ≡ isWidth width ⌝ }
 {
-    match width {
-        8 => true,
-        9 => true,
-        11 => true,
-        12 => true,
-        _ => false,
-    }
+    (width == 8) | (width == 9) | (width == 11) | (width == 12)
 }
 
 // A word taken as a 16-bit two's complement number: its top bit counts -0x8000.
@@ -58,10 +52,7 @@ fn does_fit(width: u8, steps: i16) -> bool
     ensures { λ r. ⌜ r ≡ fits width steps ⌝ }
 {
     let reach: i16 = 1 << (width - 1);
-    if -reach <= steps {
-        return steps < reach;
-    }
-    false
+    (-reach <= steps) & (steps < reach)
 }
 
 // The temperature of two bytes at a width.

@@ -28,10 +28,7 @@ pub enum Sampled {
 fn is_sample(steps: i16) -> bool
     ensures { λ r. ⌜ r ≡ isSample steps ⌝ }
 {
-    if -2048 <= steps {
-        return steps <= 2047;
-    }
-    false
+    (-2048 <= steps) & (steps <= 2047)
 }
 
 // A limit in whole degrees, as steps of 1/16 degree.
@@ -59,21 +56,8 @@ fn pending_after(behaviour: Behaviour, was: bool, hot: bool, pending: bool) -> b
     ensures { λ r. ⌜ r ≡ pendingAfter behaviour was hot pending ⌝ }
 {
     match behaviour {
-        Behaviour::Default => {
-            if hot {
-                return true;
-            }
-            pending
-        }
-        Behaviour::OneTime => {
-            if was {
-                return pending;
-            }
-            if hot {
-                return true;
-            }
-            pending
-        }
+        Behaviour::Default => hot | pending,
+        Behaviour::OneTime => (!was & hot) | pending,
         Behaviour::Comparator => pending,
     }
 }

@@ -4,12 +4,10 @@ use borrow.Author.Needs.{needs}
 use Prim.Native.Nat.{_-_, _*_, _%_, _^_, _<_}
 use native.Mathlib.Omega.{arith}
 use mathlib.Core.Path.{_≡_}
-use mathlib.Core.Bool.{Bool}
 use lib.Pow.{pow-lt}
-use lib.IntN.{pos, negsuc, negℤ, _-ℤ_}
-use lib.Signed.{leZ}
+use lib.IntN.{pos, negsuc, _-ℤ_}
 use mir.Syntax.{w16}
-use mir.Val.{toZ, ofZ}
+use mir.Val.{toZ}
 use mir.Facts.{toZ-ofZ}
 use Rattle.readings.proofs.Widths.{bounds, least, below-zero, reach-is}
 use Rattle.readings.proofs.does_fit.Statement.{statement}
@@ -30,19 +28,13 @@ cast-reach c = search needs
 shl-reach : tie.Need-shl-reach
 shl-reach c = omega (arith, bounds (c .args .width) (c .pre))
 
-sub-if1 : tie.Need-sub-if1
-sub-if1 c =
+sub-result : tie.Need-sub-result
+sub-result c =
     let small : 2 ^ (c .args .width - 1) < 2 ^ 15 = pow-lt {j = 15} (omega (arith, bounds (c .args .width) (c .pre))) in
     rw (lower c) (record { sfits = omega arith })
 
-tested : (c : tie.Start) {b : Bool} → leZ (toZ w16 (ofZ w16 (pos 0 -ℤ toZ w16 (1 * 2 ^ (c .args .width - 1) % 65536)))) (toZ w16 (ofZ w16 (c .args .steps))) ≡ b → leZ (negℤ (pos (2 ^ (c .args .width - 1)))) (c .args .steps) ≡ b
-tested c t = rw (least (c .args .width - 1)) (rw (toZ-ofZ (sub-if1 c), lower c, toZ-ofZ (c .fits .steps)) at t)
-
 returns : tie.Need-returns
-returns c = rw (tested (c .before) (c .if1 .taken), toZ-ofZ (c .before .fits .steps), reach (c .before))
-
-returns-2 : tie.Need-returns-2
-returns-2 c = rw (tested (c .before) (c .if1 .left))
+returns c = rw (toZ-ofZ (sub-result c), lower c, toZ-ofZ (c .fits .steps), reach c, ← least (c .args .width - 1))
 
 pub does-fit-spec : {M : Type 1} → statement M
-does-fit-spec = tie.close (tie.spec sub-reach cast-reach shl-reach sub-if1 returns returns-2)
+does-fit-spec = tie.close (tie.spec sub-reach cast-reach shl-reach sub-result returns)

@@ -5,10 +5,7 @@ use Rattle.watch.proofs.is_sample.Statement.{statement}
 use Rattle.watch.proofs.is_sample.Tie as tie
 
 returns : tie.Need-returns
-returns c = rw (toZ-ofZ (c .before .fits .steps), rw (toZ-ofZ (c .before .fits .steps)) at (c .if1 .taken))
-
-returns-2 : tie.Need-returns-2
-returns-2 c = rw (rw (toZ-ofZ (c .before .fits .steps)) at (c .if1 .left))
+returns c = rw (toZ-ofZ (c .fits .steps))
 
 pub is-sample-spec : {M : Type 1} → statement M
-is-sample-spec = tie.close (tie.spec returns returns-2)
+is-sample-spec = tie.close (tie.spec returns)
