@@ -25,8 +25,9 @@ fn duty_below(degrees: [u8; 4], duties: [u8; 4], at: u8) -> u8
         return duties[0];
     }
     for k in 0..3 {
-        if at <= degrees[k + 1] {
-            return mean(degrees[k], duties[k], degrees[k + 1], duties[k + 1], at);
+        let next = k + 1;
+        if at <= degrees[next] {
+            return mean(degrees[k], duties[k], degrees[next], duties[next], at);
         }
     }
     duties[3]
