@@ -1,11 +1,13 @@
 #!/usr/bin/env python3
-"""Writes what the program `figures` must print, from the rules paper and the second reading of the data sheets.
+"""Writes what each program NAME_figures must print, from the rules paper and the second reading of the data sheets, to NAME_figures/stdout of a folder.
 
-    python3 tests/expected/figures.py > crates/figures/stdout
+    python3 tests/expected/figures.py crates
 
-Nothing here or in the modules beside it is taken from a run of the program: the second reading was made from the sheets by a reader who
+Nothing here or in the modules beside it is taken from a run of a program: the second reading was made from the sheets by a reader who
 had not seen the first, and the rest follows the sentences of the rules paper.
 """
+import contextlib
+import pathlib
 import sys
 
 sys.dont_write_bytecode = True
@@ -17,15 +19,19 @@ from records import records
 from scripts import scripts
 from watch import watches
 
+PROGRAMS = {
+    "chip_figures": (rows, image_calls, stored, identity_bits),
+    "reading_figures": (temperatures, voltages),
+    "watch_figures": (watches,),
+    "plan_figures": (curves,),
+    "record_figures": (records,),
+    "script_figures": (scripts,),
+}
+
 if __name__ == "__main__":
-    sys.stdout.reconfigure(newline="\n")
-    rows()
-    image_calls()
-    stored()
-    identity_bits()
-    temperatures()
-    voltages()
-    watches()
-    curves()
-    records()
-    scripts()
+    for name, parts in PROGRAMS.items():
+        folder = pathlib.Path(sys.argv[1], name)
+        folder.mkdir(parents=True, exist_ok=True)
+        with open(folder / "stdout", "w", newline="\n") as lines, contextlib.redirect_stdout(lines):
+            for part in parts:
+                part()

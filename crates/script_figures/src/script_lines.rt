@@ -1,0 +1,84 @@
+// Scripts written to a buffer that was filled with 5Ah, `script PLAN room N writes N out BYTES`, and plays that are refused:
+// `play PLAN length L refused R kept`.
+use curves::Plan;
+use refusal::Count;
+
+pub fn made(answer: Count) {
+    printing::counted(b" writes ", answer);
+}
+
+fn script_to_part(plan: Plan, buffer: &mut [u8], room: usize) {
+    if room <= buffer.len() {
+        made(scripts::script(plan, &mut buffer[..room]));
+    }
+}
+
+fn script(plan: Plan, room: usize) {
+    let mut buffer = [printing::FILL; 50];
+    printing::text(b"script");
+    sample_plans::show(plan);
+    printing::labelled(b" room ", room as u64);
+    script_to_part(plan, &mut buffer, room);
+    printing::text(b" out");
+    printing::bytes(&buffer);
+    printing::line_end();
+}
+
+// 9 where a byte is missing; a tail is kept.
+fn rooms() {
+    script(sample_plans::paper(1, 3), 25);
+    script(sample_plans::paper(1, 3), 26);
+    script(sample_plans::paper(1, 3), 50);
+    script(sample_plans::stepped(), 47);
+    script(sample_plans::stepped(), 48);
+    script(sample_plans::stepped(), 50);
+}
+
+// Into no room and into plenty: 7 is before 9.
+fn refused_scripts() {
+    for k in 0..14u8 {
+        script(sample_plans::refused(k), 0);
+        script(sample_plans::refused(k), 50);
+    }
+}
+
+// On an image that is all 5Ah, which is no chip's.
+fn play_on_part(plan: Plan, buffer: &mut [u8], length: usize) {
+    if length <= buffer.len() {
+        made(scripts::play(plan, &mut buffer[..length], 24));
+    }
+}
+
+fn play(plan: Plan, length: usize) {
+    let mut buffer = [printing::FILL; 257];
+    printing::text(b"play");
+    sample_plans::show(plan);
+    printing::labelled(b" length ", length as u64);
+    play_on_part(plan, &mut buffer, length);
+    printing::kept(&buffer);
+    printing::line_end();
+}
+
+// On too few bytes for an image, and on enough: 7 is before 8 and 10.
+fn refused_plays() {
+    for k in 0..14u8 {
+        play(sample_plans::refused(k), 255);
+        play(sample_plans::refused(k), 256);
+    }
+}
+
+// 8, and 8 before 10.
+fn not_images(plan: Plan) {
+    play(plan, 0);
+    play(plan, 255);
+    play(plan, 256);
+    play(plan, 257);
+}
+
+pub fn print_all() {
+    rooms();
+    refused_scripts();
+    refused_plays();
+    not_images(sample_plans::paper(1, 3));
+    not_images(sample_plans::stepped());
+}

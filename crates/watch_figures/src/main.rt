@@ -1,0 +1,154 @@
+// Prints histories of the alarm watch, sample by sample, in each behaviour: `watch BEHAVIOUR new ..`, `watch BEHAVIOUR limits H L sample N ..` and
+// `watch BEHAVIOUR acknowledge ..`, each with what the watch then holds and shows.
+use watch::Behaviour;
+use watch::Sampled;
+use watch::Watch;
+
+fn begin(watch: Watch) {
+    printing::text(b"watch ");
+    let behaviour = watch.behaviour;
+    match behaviour {
+        Behaviour::Default => printing::text(b"default"),
+        Behaviour::OneTime => printing::text(b"one-time"),
+        Behaviour::Comparator => printing::text(b"comparator"),
+    }
+}
+
+fn fact(name: &[u8], on: bool) {
+    printing::text(name);
+    if on {
+        printing::text(b" on");
+    } else {
+        printing::text(b" off");
+    }
+}
+
+fn end(watch: Watch) {
+    fact(b" hot", watch.hot);
+    fact(b" pending", watch.pending);
+    fact(b" output", watch.output());
+    printing::line_end();
+}
+
+fn started(behaviour: Behaviour) -> Watch {
+    let watch = Watch::new(behaviour);
+    begin(watch);
+    printing::text(b" new");
+    end(watch);
+    watch
+}
+
+// The watch after a sample; a refusal says so.
+fn told(sampled: Sampled) -> Watch {
+    match sampled {
+        Sampled::Taken(watch) => watch,
+        Sampled::Refused(r, watch) => {
+            printing::refused(r);
+            watch
+        }
+    }
+}
+
+fn in_sixteen_bits(degrees: i8) -> i16 {
+    degrees as i16
+}
+
+fn sample(watch: Watch, steps: i16, high: i8, hysteresis: i8) -> Watch {
+    begin(watch);
+    printing::text(b" limits ");
+    printing::signed(in_sixteen_bits(high));
+    printing::space();
+    printing::signed(in_sixteen_bits(hysteresis));
+    printing::text(b" sample ");
+    printing::signed(steps);
+    let after = told(watch.sample(steps, high, hysteresis));
+    end(after);
+    after
+}
+
+fn acknowledge(watch: Watch) -> Watch {
+    let after = watch.acknowledge();
+    begin(after);
+    printing::text(b" acknowledge");
+    end(after);
+    after
+}
+
+// The rules paper's history: 81, 78, acknowledge, 78 degrees.
+fn figure(behaviour: Behaviour) {
+    let mut watch = started(behaviour);
+    watch = sample(watch, 1296, 80, 75);
+    watch = sample(watch, 1248, 80, 75);
+    watch = acknowledge(watch);
+    sample(watch, 1248, 80, 75);
+}
+
+// Exactly at a limit nothing changes, and a step beyond it hot does.
+fn at_the_limits(behaviour: Behaviour) {
+    let mut watch = started(behaviour);
+    watch = sample(watch, 1280, 80, 75);
+    watch = sample(watch, 1281, 80, 75);
+    watch = sample(watch, 1280, 80, 75);
+    watch = sample(watch, 1200, 80, 75);
+    watch = sample(watch, 1199, 80, 75);
+    sample(watch, 1200, 80, 75);
+}
+
+fn refused_samples(before: Watch) -> Watch {
+    let mut watch = sample(before, 2048, 80, 75);
+    watch = sample(watch, -2049, 80, 75);
+    watch = sample(watch, 32767, 80, 75);
+    sample(watch, -32768, 80, 75)
+}
+
+// Refused samples leave a watch that is cold as it was, and one that is hot; the ends of the twelve bits are taken.
+fn at_the_ends(behaviour: Behaviour) {
+    let mut watch = refused_samples(started(behaviour));
+    watch = sample(watch, 2047, 80, 75);
+    watch = refused_samples(watch);
+    sample(watch, -2048, 80, 75);
+}
+
+// With the hysteresis limit above the high limit the high limit decides.
+fn limits_crossed(behaviour: Behaviour) {
+    let mut watch = started(behaviour);
+    watch = sample(watch, 1200, 75, 80);
+    watch = sample(watch, 1201, 75, 80);
+    watch = sample(watch, 1279, 75, 80);
+    sample(watch, 1200, 75, 80);
+}
+
+// Once acknowledged, one-time waits for it to cool before the next alarm.
+fn second_alarm(behaviour: Behaviour) {
+    let mut watch = started(behaviour);
+    watch = sample(watch, 1296, 80, 75);
+    watch = acknowledge(watch);
+    watch = sample(watch, 1296, 80, 75);
+    watch = acknowledge(watch);
+    watch = sample(watch, 1199, 80, 75);
+    sample(watch, 1296, 80, 75);
+}
+
+// A run of recorded samples is the same samples in turn; the one that is refused changes nothing, and the run goes on.
+fn recorded(behaviour: Behaviour) {
+    let samples: [i16; 5] = [1296, 1248, 2048, 1199, 1281];
+    let watch = Watch::new(behaviour).run(&samples, 80, 75);
+    begin(watch);
+    printing::text(b" limits 80 75 run 1296 1248 2048 1199 1281");
+    end(watch);
+}
+
+fn histories(behaviour: Behaviour) {
+    figure(behaviour);
+    at_the_limits(behaviour);
+    at_the_ends(behaviour);
+    limits_crossed(behaviour);
+    second_alarm(behaviour);
+    recorded(behaviour);
+}
+
+fn main() {
+    histories(Behaviour::Default);
+    histories(Behaviour::OneTime);
+    histories(Behaviour::Comparator);
+}
