@@ -67,7 +67,7 @@ fn stop(plan: Plan, old: [u8; 256], count: usize) {
     samples::head(plan);
     print::text(b" count ");
     print::decimal(count as u64);
-    script_lines::made(scripts::play(plan, &mut new, count));
+    script_lines::made(plays::play(plan, &mut new, count));
     print::text(b" changed ");
     print::decimal(changed(old, new));
     speeds(plan, old, new);
@@ -90,7 +90,7 @@ fn power_on(chip: u8) -> [u8; 256] {
 
 fn loaded(plan: Plan) -> [u8; 256] {
     let mut image = power_on(plan.chip);
-    scripts::play(plan, &mut image, 24);
+    plays::play(plan, &mut image, 24);
     image
 }
 

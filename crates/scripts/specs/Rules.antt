@@ -1,8 +1,18 @@
--- Demand 3, said once for every chip: what a chip's rule must do, and what two curves must have in common with a fan table, for a script to be never slower.
+-- Demand 3, said once for every chip: what a chip's rule must do for a script to be never slower; and which positions lie outside some registers.
 -- Assumes nothing.
 use Prim.Native.Nat.{ℕ}
-use mathlib.Core.List.{List}
+use mathlib.Core.Path.{_≡_}
+use mathlib.Core.List.{List, [], _∷_}
 use Rattle.plans.specs.Orders.{Each, fulls}
+
+-- each entry has a property
+abbrev pub All : (ℕ → Type 0) → List ℕ → Type 0
+All P [] = Unit {0}
+All P (x ∷ xs) = P x × All P xs
+
+-- a position that is none of some registers
+abbrev pub Outside : ℕ → List ℕ → Type 0
+Outside k registers = All (λ p. p ≡ k → ⊥) registers
 
 -- A chip's rule. `Fast a b`: a is at least as fast as b, of two speeds asked and of two bytes of a speed register; `slower a b`: the slower of two.
 -- It asks at least as fast where every speed register is at least as fast (`rises`), and where every speed register is full it asks
