@@ -13,6 +13,7 @@ use Rattle.watch.proofs.Unique as watch
 use Rattle.plans.proofs.Unique as plans
 use Rattle.records.proofs.Unique as records
 use Rattle.scripts.proofs.Unique as scripts
+use Rattle.plays.proofs.Unique as plays
 use Rattle.translation.proofs.Unique as translation
 use Rattle.clib.specs.Packed.{packed, Answers, YkWrite, YkRead, YkReset, YkIdentity, YkSteps, YkBytes, YkMicrovolts, YkSample, YkAcknowledge, YkReadRecord, YkWriteRecord, YkAskedOfPlan, YkAskedOfImage, YkScript, YkPlay, YkTranslate}
 
@@ -73,7 +74,7 @@ pub script-unique : (chip table : ℕ) (body old : List ℕ) {r s : ℕ} {l m : 
 script-unique chip table body old p q = (answers-unique (λ a b k l. scripts.scripts-unique k l .0) p q, scripts.scripts-unique (p .kept) (q .kept) .1)
 
 pub play-unique : (chip table : ℕ) (body old : List ℕ) (count : ℕ) {r s : ℕ} {l m : List ℕ} → YkPlay chip table body old count r l → YkPlay chip table body old count s m → (r ≡ s) × (l ≡ m)
-play-unique chip table body old count p q = (answers-unique (λ a b k l. scripts.plays-unique k l .0) p q, scripts.plays-unique (p .kept) (q .kept) .1)
+play-unique chip table body old count p q = (answers-unique (λ a b k l. plays.plays-unique k l .0) p q, plays.plays-unique (p .kept) (q .kept) .1)
 
 pub translate-unique : {input old : List ℕ} {r s : ℕ} {l m : List ℕ} → YkTranslate input old r l → YkTranslate input old s m → (r ≡ s) × (l ≡ m)
 translate-unique p q = (answers-unique (λ a b k l. translation.translates-unique k l .0) p q, translation.translates-unique (p .kept) (q .kept) .1)

@@ -26,7 +26,8 @@ use Rattle.curves.specs.Planned.{planned}
 use Rattle.plans.specs.Plans.{decoded}
 use Rattle.records.specs.Records.{Sized, roomChecks, writeChecks, recordOf, encoded, bodyLength, recordLength, chipIn, Writes}
 use Rattle.records.proofs.Encoding.{record-of-plan, decoded-sized}
-use Rattle.scripts.specs.Scripts.{scriptOf, scriptFor, fullOf, scriptChecks, playChecks, Scripts, Plays}
+use Rattle.scripts.specs.Scripts.{scriptOf, scriptFor, fullOf, scriptChecks, Scripts}
+use Rattle.plays.specs.Plays.{playChecks, Plays}
 use Rattle.translation.specs.Text.{textOf, Translates}
 use Rattle.translation.proofs.Bound.{text-short}
 use Rattle.clib.specs.Bodies.{planFrom, unnamed}

@@ -1,4 +1,4 @@
--- Demand 2, in the customer's words, of the answers that callers get. Demand 1 is `Demand1` of `refusal`, demand 3 is `Demand3` of `scripts`.
+-- Demand 2, in the customer's words, of the answers that callers get. Demand 1 is `Demand1` of `refusal`, demand 3 is `Demand3` of `plays`.
 -- Assumes nothing.
 use Prim.Native.Nat.{ℕ, _≤_, _<_}
 use mathlib.Core.Path.{_≡_}

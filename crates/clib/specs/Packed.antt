@@ -25,6 +25,7 @@ use Rattle.plans.specs.Plans as plans
 use Rattle.records.specs.declared.Found.{Found}
 use Rattle.records.specs.Records as records
 use Rattle.scripts.specs.Scripts as scripts
+use Rattle.plays.specs.Plays as plays
 use Rattle.translation.specs.Text as translation
 use Rattle.clib.specs.Facts.{watchOf, factsOf}
 use Rattle.clib.specs.Bodies.{planFrom}
@@ -124,7 +125,7 @@ abbrev pub YkScript : ℕ → ℕ → List ℕ → List ℕ → ℕ → List ℕ
 YkScript chip table body old r new = Answers packsCount (λ a. scripts.Scripts (planFrom chip table body) old a new) r
 
 abbrev pub YkPlay : ℕ → ℕ → List ℕ → List ℕ → ℕ → ℕ → List ℕ → Type 0
-YkPlay chip table body old count r new = Answers packsCount (λ a. scripts.Plays (planFrom chip table body) old count a new) r
+YkPlay chip table body old count r new = Answers packsCount (λ a. plays.Plays (planFrom chip table body) old count a new) r
 
 abbrev pub YkTranslate : List ℕ → List ℕ → ℕ → List ℕ → Type 0
 YkTranslate input old r new = Answers packsCount (λ a. translation.Translates input old a new) r

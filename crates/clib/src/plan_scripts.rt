@@ -1,7 +1,7 @@
 // A plan's byte writes, and playing them on an image.
 use crate::bodies;
 use crate::packing;
-ghost use Rattle.scripts.specs.NeverSlower.{Safely};
+ghost use Rattle.plays.specs.NeverSlower.{Safely};
 ghost use Rattle.clib.specs.Bodies.{planFrom};
 ghost use Rattle.clib.specs.Packed.{YkScript, YkPlay};
 
@@ -20,6 +20,6 @@ pub extern "C" fn yk_play(chip: u8, table: u8, body: &[u8], image: &mut [u8], co
     ensures { λ _. ⌜ Safely (planFrom chip table (now (body .entry))) (now (image .entry)) count (now (image .exit)) ⌝ }
 {
     let plan = bodies::plan_from(chip, table, body);
-    let made = scripts::play(plan, image, count);
+    let made = plays::play(plan, image, count);
     packing::of_count(made)
 }

@@ -62,7 +62,7 @@ fn stop(plan: Plan, old: [u8; 256], count: usize) {
     printing::text(b"stop");
     sample_plans::head(plan);
     printing::labelled(b" count ", count as u64);
-    script_lines::made(scripts::play(plan, &mut new, count));
+    script_lines::made(plays::play(plan, &mut new, count));
     printing::labelled(b" changed ", changed(old, new));
     speeds(plan, old, new);
     printing::line_end();
@@ -84,7 +84,7 @@ fn power_on(chip: u8) -> [u8; 256] {
 
 fn loaded(plan: Plan) -> [u8; 256] {
     let mut image = power_on(plan.chip);
-    scripts::play(plan, &mut image, 24);
+    plays::play(plan, &mut image, 24);
     image
 }
 

@@ -45,7 +45,7 @@ fn refused_scripts() {
 // On an image that is all 5Ah, which is no chip's.
 fn play_on_part(plan: Plan, buffer: &mut [u8], length: usize) {
     if length <= buffer.len() {
-        made(scripts::play(plan, &mut buffer[..length], 24));
+        made(plays::play(plan, &mut buffer[..length], 24));
     }
 }
 

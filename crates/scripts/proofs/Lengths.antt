@@ -1,6 +1,7 @@
 -- A script has as many writes as the paper says: it is described, pair by pair, by what is laid out from the plan's record, whose parts are counted.
 -- Assumes nothing.
-use Prim.Native.Nat.{ℕ}
+use Prim.Native.Nat.{ℕ, _≤_}
+use native.Mathlib.Omega.{arith}
 use mathlib.Core.Path.{_≡_, refl, sym, ap, _∙_}
 use mathlib.Core.Bool.{So}
 use mathlib.Core.List.{List, []}
@@ -8,12 +9,14 @@ use borrow.Author.Tests.{not-false}
 use lib.ListN.{length}
 use Rattle.refusal.specs.Checks.{first}
 use Rattle.refusal.specs.declared.Count.the-variants as counted
-use Rattle.refusal.proofs.Passed.{all-passed, when-passed}
+use Rattle.refusal.proofs.Passed.{Passed, all-passed, when-passed}
 use Rattle.cards.specs.declared.Chip.{Chip}
 use Rattle.cards.specs.declared.Chip.the-variants.{Nct7802y, F75373s, Nct80}
-use Rattle.cards.specs.declared.Named.the-variants.{Known}
+use Rattle.cards.specs.declared.Named.{Named}
+use Rattle.cards.specs.declared.Named.the-variants.{Known, Unknown}
 use Rattle.cards.specs.Cards.{chipOf, hasTable}
 use Rattle.curves.specs.declared.Plan.{Plan}
+use Rattle.plans.specs.Plans.{planChecks}
 use Rattle.records.specs.Records.{Sized}
 use Rattle.scripts.specs.Scripts.{scriptOf, scriptLength, scriptFor, scriptChecks, Scripts}
 use Rattle.scripts.proofs.Prepared.{describes-plan}
@@ -32,3 +35,21 @@ script-counts {plan} {out} {new} {n} chip e S p =
     let has = not-false (hasTable chip (plan .table)) (rw e at (all-passed (scriptChecks plan out) refl none .1 .0)) in
     let all : n ≡ length (scriptFor plan) = ap (λ (t : ℕ × ℕ). t .1) (p .answer) ∙ sym (when-passed (length (scriptFor plan)) 0 none) in
     (rw e at all) ∙ script-of-plan chip plan S has
+
+-- so 48 bytes hold the script of each accepted plan
+pub script-short : (plan : Plan) → Sized plan → first (planChecks plan) ≡ 0 → length (scriptFor plan) ≤ 24
+script-short plan S e = by-name (chipOf (plan .chip)) refl
+  where
+    checks : Passed (planChecks plan)
+    checks = all-passed (planChecks plan) refl e
+
+    at-most : (chip : Chip) → scriptLength chip ≤ 24
+    at-most Nct7802y = omega arith
+    at-most F75373s = omega arith
+    at-most Nct80 = omega arith
+
+    by-name : (named : Named) → chipOf (plan .chip) ≡ named → length (scriptFor plan) ≤ 24
+    by-name (Known chip) q =
+        let has = not-false (hasTable chip (plan .table)) (rw q at (checks .1 .0)) in
+        rw q (omega (arith, script-of-plan chip plan S has, at-most chip))
+    by-name Unknown q = rw q (omega arith)

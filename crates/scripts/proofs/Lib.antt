@@ -1,14 +1,11 @@
 pub mod Memory
 pub mod Safe
-pub mod Rules
-pub mod Played
-pub mod Fitting
+pub mod Filled
 pub mod Pairs
 pub mod Turns
 pub mod Prepared
 pub mod Lengths
 pub mod Answers
-pub mod NeverRefused
-pub mod NeverSlower
-pub mod Typed
+pub mod Owned
+pub mod Buffers
 pub mod Unique

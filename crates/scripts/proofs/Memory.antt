@@ -9,7 +9,7 @@ use borrow.Author.Tests.{eq-eqb, ne-eqb}
 use lib.Dec.{eqb}
 use lib.ListN.{length, take}
 use Rattle.scripts.specs.Scripts.{Pair, writes}
-use Rattle.scripts.specs.NeverSlower.{Outside}
+use Rattle.scripts.specs.Rules.{Outside}
 
 abbrev pub Memory : Type 0
 Memory = ℕ → ℕ

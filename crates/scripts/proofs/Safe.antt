@@ -11,8 +11,7 @@ use Rattle.cards.specs.Rows.{Table}
 use Rattle.curves.specs.Orders.{Each, fulls}
 use Rattle.curves.specs.Planned.{Curve}
 use Rattle.scripts.specs.Scripts.{Pair, writes, script}
-use Rattle.scripts.specs.Rules.{Rule}
-use Rattle.scripts.specs.NeverSlower.{Outside}
+use Rattle.scripts.specs.Rules.{Outside, Rule}
 use Rattle.scripts.proofs.Memory.{Memory, put, puts, put-there, puts-append, Distinct, Disjoint, held-elsewhere, all-elsewhere, all-there, Always, always-cut, always-then, always-beside, always-beside-all}
 
 -- what a table's registers hold

@@ -1,23 +1,20 @@
--- A turn of each loop: one more pair in the buffer, one more write on the image.
+-- A turn of the loop: one more pair in the buffer.
 -- Assumes nothing.
 use Prim.Native.Nat.{ℕ, zero, suc, _+_, _*_, _≤_, _<_}
 use native.Mathlib.Numerals.{add-one}
 use native.Mathlib.Omega.{arith}
 use mathlib.Core.Path.{_≡_, refl, sym, ap, ap₂, _∙_}
 use mathlib.Core.List.{List, [], _∷_, _++_, append-assoc}
-use borrow.Author.Tests.{eq-eqb}
+use borrow.Author.Tests.{lt-ltb, le-ltb}
 use lib.ListN.{length, getD, set, drop, length-append, length-set}
 use lib.Seq.{drop-cons, set-at}
-use Rattle.refusal.specs.declared.Outcome.{Outcome}
-use Rattle.cards.specs.declared.Chip.{Chip}
-use Rattle.cards.specs.declared.Named.{Named}
-use Rattle.cards.specs.declared.Named.the-variants.{Known, Unknown}
-use Rattle.cards.specs.Cards.{chipOf, whenKnown}
-use Rattle.images.specs.Bytes.{written}
-use Rattle.images.specs.Images.{Writes}
-use Rattle.scripts.specs.declared.making.Script.{Script}
-use Rattle.scripts.specs.Scripts.{Pair, flat, played}
-use Rattle.scripts.specs.Making.{pairAt, pairsOf}
+use Rattle.refusal.specs.declared.Refusal.the-variants.{OutputTooShort}
+use Rattle.refusal.specs.Checks.{first}
+use Rattle.refusal.proofs.Passed.{when-passed, when-refused, told-passed, told-refused}
+use Rattle.refusal.specs.declared.Count.the-variants as counted
+use Rattle.scripts.specs.declared.making.Layout.{Layout}
+use Rattle.scripts.specs.Scripts.{Pair, flat, roomForPairs}
+use Rattle.scripts.specs.Making.{writesOf, pairAt, pairsOf, Puts}
 
 flat-append : (xs ys : List Pair) → flat (xs ++ ys) ≡ flat xs ++ flat ys
 flat-append [] ys = refl
@@ -27,20 +24,26 @@ flat-length : (xs : List Pair) → length (flat xs) ≡ 2 * length xs
 flat-length [] = refl
 flat-length (x ∷ xs) = omega (arith, flat-length xs)
 
-pub pairs-length : (s : Script) (n : ℕ) → length (pairsOf s n) ≡ n
-pairs-length s zero = refl
-pairs-length s (suc n) =
-    length-append (pairsOf s n) ((pairAt s n .address, pairAt s n .byte) ∷ []) ∙ add-one (length (pairsOf s n)) ∙ ap suc (pairs-length s n)
+pairs-length : (l : Layout) (bytes : List ℕ) (n : ℕ) → length (pairsOf l bytes n) ≡ n
+pairs-length l bytes zero = refl
+pairs-length l bytes (suc n) =
+    length-append (pairsOf l bytes n) ((pairAt l bytes n .address, pairAt l bytes n .byte) ∷ [])
+    ∙ add-one (length (pairsOf l bytes n))
+    ∙ ap suc (pairs-length l bytes n)
 
--- the first k of n pairs stand in the buffer, and the rest of it is as it was
-pub record Written (s : Script) (n : ℕ) (old out : List ℕ) (k : ℕ) : Type 0 where
-  pub within : k ≤ n
-  pub room : 2 * n ≤ length old
+-- the first k pairs stand in the buffer, which has room for all, and the rest of it is as it was
+pub record Written (l : Layout) (bytes old out : List ℕ) (k : ℕ) : Type 0 where
+  pub within : k ≤ writesOf l
+  pub room : 2 * writesOf l ≤ length old
   pub long : length out ≡ length old
-  pub same : out ≡ flat (pairsOf s k) ++ drop (2 * k) old
+  pub same : out ≡ flat (pairsOf l bytes k) ++ drop (2 * k) old
 
-pub written-none : (s : Script) (n : ℕ) (old : List ℕ) → 2 * n ≤ length old → Written s n old old 0
-written-none s n old h = record { within = omega arith; room = h; long = refl; same = refl }
+pub written-none : (l : Layout) (bytes old : List ℕ) → 2 * writesOf l ≤ length old → Written l bytes old old 0
+written-none l bytes old h = record { within = omega arith; room = h; long = refl; same = refl }
+
+-- the next pair lies in the buffer
+pub next-inside : {l : Layout} {bytes old out : List ℕ} {k : ℕ} → Written l bytes old out k → k < writesOf l → 2 * k + 1 < length out
+next-inside w h = omega (arith, w .room, w .long)
 
 -- two bytes at the seam of two lists
 two-at : (front : List ℕ) (x y : ℕ) (back : List ℕ) (a b n : ℕ) → length front ≡ n
@@ -51,66 +54,43 @@ two-at front x y back a b n e =
     ∙ append-assoc front (a ∷ []) (b ∷ back)
     ∙ sym (append-assoc front (a ∷ (b ∷ [])) back)
 
-pub written-more : {s : Script} {n : ℕ} {old out : List ℕ} {k : ℕ} (a b : ℕ) → Written s n old out k → k < n
-    → a ≡ pairAt s k .address → b ≡ pairAt s k .byte
-    → Written s n old (set (set out (2 * k) a) (2 * k + 1) b) (k + 1)
-written-more {s} {n} {old} {out} {k} a b w h ea eb =
+pub written-more : {l : Layout} {bytes old out : List ℕ} {k : ℕ} (a b : ℕ) → Written l bytes old out k → k < writesOf l
+    → a ≡ pairAt l bytes k .address → b ≡ pairAt l bytes k .byte
+    → Written l bytes old (set (set out (2 * k) a) (2 * k + 1) b) (k + 1)
+written-more {l} {bytes} {old} {out} {k} a b w h ea eb =
     let inside : 2 * k < length old = omega (arith, w .room) in
     let next : suc (2 * k) < length old = omega (arith, w .room) in
-    let front = flat (pairsOf s k) in
+    let front = flat (pairsOf l bytes k) in
     let split : drop (2 * k) old ≡ getD old (2 * k) 0 ∷ (getD old (suc (2 * k)) 0 ∷ drop (suc (suc (2 * k))) old) =
-    drop-cons old (2 * k) 0 inside ∙ ap (λ (l : List ℕ). getD old (2 * k) 0 ∷ l) (drop-cons old (suc (2 * k)) 0 next) in
+    drop-cons old (2 * k) 0 inside ∙ ap (λ (xs : List ℕ). getD old (2 * k) 0 ∷ xs) (drop-cons old (suc (2 * k)) 0 next) in
     let past : suc (suc (2 * k)) ≡ 2 * (k + 1) = omega arith in
-    let long : length (flat (pairsOf s k)) ≡ 2 * k = flat-length (pairsOf s k) ∙ ap (λ (j : ℕ). 2 * j) (pairs-length s k) in
-    let pairs : flat (pairsOf s (k + 1)) ≡ front ++ a ∷ (b ∷ []) =
-    ap (λ (j : ℕ). flat (pairsOf s j)) (add-one k)
-    ∙ flat-append (pairsOf s k) ((pairAt s k .address, pairAt s k .byte) ∷ [])
+    let long : length (flat (pairsOf l bytes k)) ≡ 2 * k = flat-length (pairsOf l bytes k) ∙ ap (λ (j : ℕ). 2 * j) (pairs-length l bytes k) in
+    let pairs : flat (pairsOf l bytes (k + 1)) ≡ front ++ a ∷ (b ∷ []) =
+    ap (λ (j : ℕ). flat (pairsOf l bytes j)) (add-one k)
+    ∙ flat-append (pairsOf l bytes k) ((pairAt l bytes k .address, pairAt l bytes k .byte) ∷ [])
     ∙ ap₂ (λ (x y : ℕ). front ++ x ∷ (y ∷ [])) (sym ea) (sym eb) in
     record {
       within = omega arith;
       room = w .room;
       long = length-set (set out (2 * k) a) (2 * k + 1) b ∙ length-set out (2 * k) a ∙ w .long;
       same =
-          ap (λ (l : List ℕ). set (set l (2 * k) a) (2 * k + 1) b) (w .same ∙ ap (λ (l : List ℕ). front ++ l) split)
+          ap (λ (xs : List ℕ). set (set xs (2 * k) a) (2 * k + 1) b) (w .same ∙ ap (λ (xs : List ℕ). front ++ xs) split)
           ∙ two-at front (getD old (2 * k) 0) (getD old (suc (2 * k)) 0) (drop (suc (suc (2 * k))) old) a b (2 * k) long
-          ∙ ap₂ (λ (l m : List ℕ). l ++ m) (sym pairs) (ap (λ (j : ℕ). drop j old) past);
+          ∙ ap₂ (λ (xs ys : List ℕ). xs ++ ys) (sym pairs) (ap (λ (j : ℕ). drop j old) past);
     }
 
--- the first k pairs are written on the image
-abbrev pub after : ℕ → Script → ℕ → List ℕ → List ℕ
-after chip s k image = whenKnown (chipOf chip) (λ c. played c (pairsOf s k) image) image
-
-pub record Made (chip : ℕ) (s : Script) (n : ℕ) (old image : List ℕ) (k : ℕ) : Type 0 where
-  pub within : k ≤ n
-  pub long : length image ≡ 256
-  pub same : image ≡ after chip s k old
-
-pub made-none : (chip : ℕ) (s : Script) (n : ℕ) (old : List ℕ) → length old ≡ 256 → Made chip s n old old 0
-made-none chip s n old e = record { within = omega arith; long = e; same = none (chipOf chip) }
-  where
-    none : (named : Named) → old ≡ whenKnown named (λ c. old) old
-    none (Known c) = refl
-    none Unknown = refl
-
-played-append : (chip : Chip) (xs ys : List Pair) (image : List ℕ) → played chip (xs ++ ys) image ≡ played chip ys (played chip xs image)
-played-append chip [] ys image = refl
-played-append chip (x ∷ xs) ys image = played-append chip xs ys (written chip (x .0) (x .1) image)
-
-pub made-more : {chip : ℕ} {s : Script} {n : ℕ} {old image new : List ℕ} {k a b : ℕ} {r : Outcome} → Made chip s n old image k → k < n
-    → a ≡ pairAt s k .address → b ≡ pairAt s k .byte → length new ≡ length image → Writes chip image a b r new
-    → Made chip s n old new (k + 1)
-made-more {chip} {s} {n} {old} {image} {new} {k} {a} {b} m h ea eb e w =
+-- all of them, or none where there is no room
+pub put-all : {l : Layout} {bytes old out : List ℕ} {k : ℕ} → Written l bytes old out k → writesOf l ≤ k
+    → Puts l bytes old (counted.Of (writesOf l)) out
+put-all {l} {bytes} {old} {out} {k} w h =
+    let all : k ≡ writesOf l = omega (arith, w .within) in
+    let none : first (roomForPairs (writesOf l) old) ≡ 0 = rw (le-ltb (length old) (2 * writesOf l) (w .room)) in
     record {
-      within = omega arith;
-      long = e ∙ m .long;
-      same = rw (add-one k) (by-chip (chipOf chip) refl);
+      answer = told-passed (roomForPairs (writesOf l) old) (writesOf l) none;
+      bytes = w .same ∙ ap (λ (j : ℕ). flat (pairsOf l bytes j) ++ drop (2 * j) old) all ∙ when-passed _ old none;
     }
-  where
-    by-chip : (named : Named) → chipOf chip ≡ named → new ≡ after chip s (suc k) old
-    by-chip (Known c) q =
-        w .bytes
-        ∙ rw (q, eq-eqb (length image) 256 (m .long))
-        (ap (written c a b) (m .same ∙ rw q)
-        ∙ ap₂ (λ (x y : ℕ). written c x y (played c (pairsOf s k) old)) ea eb
-        ∙ sym (played-append c (pairsOf s k) ((pairAt s k .address, pairAt s k .byte) ∷ []) old))
-    by-chip Unknown q = w .bytes ∙ rw q (m .same ∙ rw q)
+
+pub put-none : (l : Layout) (bytes old : List ℕ) → length old < 2 * writesOf l → Puts l bytes old (counted.Refused OutputTooShort) old
+put-none l bytes old h =
+    let all : 9 ≡ first (roomForPairs (writesOf l) old) = rw (lt-ltb (length old) (2 * writesOf l) h) in
+    record { answer = told-refused OutputTooShort (roomForPairs (writesOf l) old) (writesOf l) all; bytes = when-refused OutputTooShort _ old all }

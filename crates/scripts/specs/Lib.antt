@@ -1,4 +1,3 @@
 pub mod Scripts
 pub mod Rules
-pub mod NeverSlower
 pub mod Making

@@ -1,66 +1,67 @@
 -- The contracts of the parts of `scripts`: how a plan's record, read in register order behind the raised speeds, makes its script.
 -- Assumes nothing.
-use Prim.Native.Nat.{ℕ, zero, suc, _+_, _-_, _≤_, _<_}
+use Prim.Native.Nat.{ℕ, zero, suc, _+_, _-_, _*_, _≤_, _<_}
 use mathlib.Core.Path.{_≡_}
 use mathlib.Core.Bool.{cond}
 use mathlib.Core.List.{List, [], _∷_, _++_}
 use lib.Dec.{ltb}
-use lib.ListN.{length, getD, take}
-use Rattle.refusal.specs.Answers.{tells}
-use Rattle.refusal.specs.Checks.{first}
+use lib.ListN.{length, getD, take, drop}
+use Rattle.refusal.specs.declared.Count.{Count}
+use Rattle.refusal.specs.Answers.{tellsCount}
+use Rattle.refusal.specs.Checks.{told, left}
 use Rattle.cards.specs.declared.Chip.{Chip}
 use Rattle.cards.specs.declared.Chip.the-variants.{Nct7802y, F75373s, Nct80}
 use Rattle.cards.specs.Cards.{chipOf, whenKnown, hasTable, baseOf}
-use Rattle.curves.specs.declared.Plan.{Plan}
-use Rattle.plans.specs.Plans.{planChecks}
-use Rattle.scripts.specs.declared.making.Script.{Script}
+use Rattle.scripts.specs.declared.making.Layout.{Layout}
 use Rattle.scripts.specs.declared.making.Pair as code
-use Rattle.scripts.specs.declared.making.Prepared.{Prepared}
-use Rattle.scripts.specs.Scripts.{Pair, fullOf, scriptFor}
+use Rattle.scripts.specs.Scripts.{Pair, fullOf, flat, roomForPairs}
 
 -- how many pairs there are: the speeds raised, then every register
-abbrev pub writesOf : Script → ℕ
-writesOf s = s .speeds + (s .settings + s .speeds)
+abbrev pub writesOf : Layout → ℕ
+writesOf l = l .speeds + (l .settings + l .speeds)
 
--- the pair of a place
-unfoldable pub pairAt : Script → ℕ → code.Pair
-pairAt s k =
-    cond (ltb k (s .speeds))
-    (record { address = s .base + (s .settings + k); byte = s .full })
-    (record { address = s .base + (k - s .speeds); byte = getD (s .bytes) (4 + (k - s .speeds)) 0 })
+-- the pair of a place, from a plan's record
+unfoldable pub pairAt : Layout → List ℕ → ℕ → code.Pair
+pairAt l bytes k =
+    cond (ltb k (l .speeds))
+    (record { address = l .base + (l .settings + k); byte = l .full })
+    (record { address = l .base + (k - l .speeds); byte = getD bytes (4 + (k - l .speeds)) 0 })
 
 -- the first n pairs
-abbrev pub pairsOf : Script → ℕ → List Pair
-pairsOf s zero = []
-pairsOf s (suc n) = pairsOf s n ++ ((pairAt s n .address, pairAt s n .byte) ∷ [])
+abbrev pub pairsOf : Layout → List ℕ → ℕ → List Pair
+pairsOf l bytes zero = []
+pairsOf l bytes (suc n) = pairsOf l bytes n ++ ((pairAt l bytes n .address, pairAt l bytes n .byte) ∷ [])
 
 -- a table of at most 14 registers that ends within the image
-pub record InImage (s : Script) : Type 0 where
-  pub registers : s .settings + s .speeds ≤ 14
-  pub addresses : s .base + 14 < 256
+pub record InImage (l : Layout) : Type 0 where
+  pub registers : l .settings + l .speeds ≤ 14
+  pub addresses : l .base + 14 < 256
 
 -- five settings and four speeds; four settings and five counts of two bytes
-abbrev pub laidOut : Chip → ℕ → List ℕ → Script
-laidOut Nct7802y base bytes = record { base = base; settings = 5; speeds = 4; full = fullOf Nct7802y; bytes = bytes }
-laidOut F75373s base bytes = record { base = base; settings = 4; speeds = 10; full = fullOf F75373s; bytes = bytes }
-laidOut Nct80 base bytes = record { base = base; settings = 0; speeds = 0; full = fullOf Nct80; bytes = bytes }
+abbrev pub laidOut : Chip → ℕ → Layout
+laidOut Nct7802y base = record { base = base; settings = 5; speeds = 4; full = fullOf Nct7802y }
+laidOut F75373s base = record { base = base; settings = 4; speeds = 10; full = fullOf F75373s }
+laidOut Nct80 base = record { base = base; settings = 0; speeds = 0; full = fullOf Nct80 }
 
-pub record Lays (chip : Chip) (base : ℕ) (bytes : List ℕ) (s : Script) : Type 0 where
-  pub answer : s ≡ laidOut chip base bytes
+pub record Lays (chip : Chip) (base : ℕ) (l : Layout) : Type 0 where
+  pub answer : l ≡ laidOut chip base
 
--- what is made of a plan's record; nothing where the plan has no table
-abbrev pub scriptIn : Plan → List ℕ → Script
-scriptIn plan bytes =
-    whenKnown (chipOf (plan .chip))
-    (λ chip. cond (hasTable chip (plan .table)) (laidOut chip (baseOf chip (plan .table)) bytes) (laidOut Nct80 0 bytes))
-    (laidOut Nct80 0 bytes)
+-- the layout of two numbers; no register where they name no table
+abbrev pub layoutOf : ℕ → ℕ → Layout
+layoutOf number table =
+    whenKnown (chipOf number)
+    (λ chip. cond (hasTable chip table) (laidOut chip (baseOf chip table)) (laidOut Nct80 0))
+    (laidOut Nct80 0)
 
--- a script's pairs are these, as many as are asked for
-pub record Describes (s : Script) (pairs : List Pair) : Type 0 where
-  pub writes : writesOf s ≡ length pairs
-  pub places : (n : ℕ) → n ≤ length pairs → pairsOf s n ≡ take n pairs
+pub record LaysTable (number table : ℕ) (l : Layout) : Type 0 where
+  pub answer : l ≡ layoutOf number table
 
-pub record Prepares (plan : Plan) (r : Prepared) : Type 0 where
-  pub answer : tells (r .ready) ≡ first (planChecks plan)
-  pub inside : InImage (r .script)
-  pub pairs : first (planChecks plan) ≡ 0 → Describes (r .script) (scriptFor plan)
+-- a layout and a record give these pairs, as many as are asked for
+pub record Describes (l : Layout) (bytes : List ℕ) (pairs : List Pair) : Type 0 where
+  pub writes : writesOf l ≡ length pairs
+  pub places : (n : ℕ) → n ≤ length pairs → pairsOf l bytes n ≡ take n pairs
+
+-- all pairs at the front of a buffer, or none
+pub record Puts (l : Layout) (record-bytes old : List ℕ) (r : Count) (new : List ℕ) : Type 0 where
+  pub answer : tellsCount r ≡ told (roomForPairs (writesOf l) old) (writesOf l)
+  pub bytes : new ≡ left (roomForPairs (writesOf l) old) (flat (pairsOf l record-bytes (writesOf l)) ++ drop (2 * writesOf l) old) old

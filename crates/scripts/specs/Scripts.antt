@@ -1,19 +1,17 @@
--- "Plan record and script": a plan's byte writes and their play on an image; and the contracts of `scripts`.
+-- "Plan record and script": a plan's byte writes; and the contract of `scripts`.
 -- Assumes nothing.
-use Prim.Native.Nat.{ℕ, _*_, min}
+use Prim.Native.Nat.{ℕ, zero, suc, _+_, _*_}
 use mathlib.Core.Path.{_≡_}
 use mathlib.Core.List.{List, [], _∷_, _++_}
 use lib.Dec.{ltb}
-use lib.ListN.{length, take, drop}
+use lib.ListN.{length, getD, drop}
 use Rattle.refusal.specs.declared.Count.{Count}
 use Rattle.refusal.specs.Answers.{tellsCount}
 use Rattle.refusal.specs.Checks.{Check, told, left}
 use Rattle.cards.specs.declared.Chip.{Chip}
 use Rattle.cards.specs.declared.Chip.the-variants.{Nct7802y, F75373s, Nct80}
 use Rattle.cards.specs.Rows.{Table}
-use Rattle.cards.specs.Cards.{chipOf, whenKnown, tableOf, notAnImage}
-use Rattle.images.specs.Bytes.{written}
-use Rattle.identities.specs.Identities.{unconfirmed}
+use Rattle.cards.specs.Cards.{chipOf, whenKnown, tableOf}
 use Rattle.curves.specs.declared.Plan.{Plan}
 use Rattle.curves.specs.Curves.{points}
 use Rattle.curves.specs.Orders.{fulls}
@@ -55,31 +53,23 @@ abbrev pub flat : List Pair → List ℕ
 flat [] = []
 flat (w ∷ ws) = (w .0) ∷ ((w .1) ∷ flat ws)
 
--- an image after some byte writes
-abbrev pub played : Chip → List Pair → List ℕ → List ℕ
-played chip [] image = image
-played chip (w ∷ ws) image = played chip ws (written chip (w .0) (w .1) image)
+-- the first n pairs of a script's bytes
+abbrev pub pairsIn : ℕ → List ℕ → List Pair
+pairsIn zero bytes = []
+pairsIn (suc n) bytes = pairsIn n bytes ++ ((getD bytes (2 * n) 0, getD bytes (2 * n + 1) 0) ∷ [])
 
 abbrev pub scriptFor : Plan → List Pair
 scriptFor plan = whenKnown (chipOf (plan .chip)) (λ c. scriptOf c plan) []
 
+-- refusal 9: "the output buffer is shorter than the result"
+abbrev pub roomForPairs : ℕ → List ℕ → List Check
+roomForPairs writes out = (ltb (length out) (2 * writes), 9) ∷ []
+
 -- "Writing .. a script checks the plan by 3, 4, 6, 7 and then 9"
 abbrev pub scriptChecks : Plan → List ℕ → List Check
-scriptChecks plan out = planChecks plan ++ ((ltb (length out) (2 * length (scriptFor plan)), 9) ∷ [])
-
--- "playing a script checks 3, 4, 6, 7, 8, 10 and no 9": the plan, then the starting image
-abbrev pub startChecks : Plan → List ℕ → List Check
-startChecks plan image = (notAnImage image, 8) ∷ (unconfirmed (plan .chip) image, 10) ∷ []
-
-abbrev pub playChecks : Plan → List ℕ → List Check
-playChecks plan image = planChecks plan ++ startChecks plan image
+scriptChecks plan out = planChecks plan ++ roomForPairs (length (scriptFor plan)) out
 
 -- what `scripts::script` promises: "The answer says how many writes"; "An output longer than the result keeps its tail."
 pub record Scripts (plan : Plan) (old : List ℕ) (r : Count) (new : List ℕ) : Type 0 where
   pub answer : tellsCount r ≡ told (scriptChecks plan old) (length (scriptFor plan))
   pub bytes : new ≡ left (scriptChecks plan old) (flat (scriptFor plan) ++ drop (2 * length (scriptFor plan)) old) old
-
--- what `scripts::play` promises: "a number above the script's length means all. It answers how many it made."
-pub record Plays (plan : Plan) (old : List ℕ) (count : ℕ) (r : Count) (new : List ℕ) : Type 0 where
-  pub answer : tellsCount r ≡ told (playChecks plan old) (min count (length (scriptFor plan)))
-  pub bytes : new ≡ left (playChecks plan old) (whenKnown (chipOf (plan .chip)) (λ c. played c (take count (scriptOf c plan)) old) old) old

@@ -2,20 +2,16 @@
 use cards::Chip;
 use cards::Named;
 use cards::Place;
-use curves::Plan;
-use refusal::Count;
-use refusal::Outcome;
-ghost use Prim.Native.Nat.{_+_, _<_};
+ghost use Prim.Native.Nat.{_<_};
 ghost use mathlib.Core.Path.{_≡_};
-ghost use Rattle.scripts.specs.Making.{pairAt, writesOf, InImage, scriptIn, Lays, Prepares};
+ghost use Rattle.scripts.specs.Making.{pairAt, writesOf, InImage, Lays, LaysTable};
 
-// Where a table begins, how many settings and speeds it has, the full byte, and the plan's record, whose body stands from place 4 on.
-pub struct Script {
+// Where a fan table begins, how many settings and speeds it has, and the full byte.
+pub struct Layout {
     pub base: u8,
     pub settings: usize,
     pub speeds: usize,
     pub full: u8,
-    pub bytes: [u8; 18],
 }
 
 pub struct Pair {
@@ -23,24 +19,12 @@ pub struct Pair {
     pub byte: u8,
 }
 
-pub struct Prepared {
-    pub ready: Outcome,
-    pub script: Script,
-}
-
-impl Script {
-    pub(crate) fn writes(self) -> usize
-        requires { ⌜ InImage self ⌝ }
-        ensures { λ r. ⌜ r ≡ writesOf self ⌝ }
-    {
-        self.speeds + (self.settings + self.speeds)
-    }
-
-    // The pair of a place.
-    pub(crate) fn pair(self, k: usize) -> Pair
+impl Layout {
+    // The pair of a place. The body stands from place 4 of the plan's record on.
+    pub(crate) fn pair(self, bytes: [u8; 18], k: usize) -> Pair
         requires { ⌜ InImage self ⌝ }
         requires { ⌜ k < writesOf self ⌝ }
-        ensures { λ r. ⌜ r ≡ pairAt self k ⌝ }
+        ensures { λ r. ⌜ r ≡ pairAt self bytes k ⌝ }
     {
         if k < self.speeds {
             return Pair {
@@ -49,7 +33,6 @@ impl Script {
             };
         }
         let j = k - self.speeds;
-        let bytes = self.bytes;
         Pair {
             address: self.base + j as u8,
             byte: bytes[4 + j],
@@ -57,63 +40,41 @@ impl Script {
     }
 }
 
-// The script of a chip's table that begins at a base.
-fn laid_out(chip: Chip, base: u8, bytes: [u8; 18]) -> Script
-    ensures { λ r. ⌜ Lays chip base bytes r ⌝ }
+// A chip's table that begins at a base.
+fn laid_out(chip: Chip, base: u8) -> Layout
+    ensures { λ r. ⌜ Lays chip base r ⌝ }
 {
     match chip {
-        Chip::Nct7802y => Script {
+        Chip::Nct7802y => Layout {
             base,
             settings: 5,
             speeds: 4,
             full: 0xFF,
-            bytes,
         },
-        Chip::F75373s => Script {
+        Chip::F75373s => Layout {
             base,
             settings: 4,
             speeds: 10,
             full: 0x00,
-            bytes,
         },
-        Chip::Nct80 => Script {
+        Chip::Nct80 => Layout {
             base,
             settings: 0,
             speeds: 0,
             full: 0x00,
-            bytes,
         },
     }
 }
 
-// The script of a plan whose record is in hand.
-fn script_of(plan: Plan, bytes: [u8; 18]) -> Script
-    ensures { λ r. ⌜ r ≡ scriptIn plan bytes ⌝ }
+// The table of two numbers; where there is none, one without a register.
+pub(crate) fn layout_of(chip: u8, table: u8) -> Layout
+    ensures { λ r. ⌜ LaysTable chip table r ⌝ }
 {
-    match cards::chip_of(plan.chip) {
-        Named::Unknown => laid_out(Chip::Nct80, 0, bytes),
-        Named::Known(chip) => match cards::table_at(chip, plan.table) {
-            Place::Nowhere => laid_out(Chip::Nct80, 0, bytes),
-            Place::At(base) => laid_out(chip, base, bytes),
-        },
-    }
-}
-
-// Judges a plan and makes its record, from which its script is written.
-pub(crate) fn prepare(plan: Plan) -> Prepared
-    ensures { λ r. ⌜ Prepares plan r ⌝ }
-{
-    let mut bytes = [0u8; 18];
-    let used = records::write(plan, &mut bytes);
-    let script = script_of(plan, bytes);
-    match used {
-        Count::Refused(refusal) => Prepared {
-            ready: Outcome::Refused(refusal),
-            script,
-        },
-        Count::Of(_) => Prepared {
-            ready: Outcome::Accepted,
-            script,
+    match cards::chip_of(chip) {
+        Named::Unknown => laid_out(Chip::Nct80, 0),
+        Named::Known(known) => match cards::table_at(known, table) {
+            Place::Nowhere => laid_out(Chip::Nct80, 0),
+            Place::At(base) => laid_out(known, base),
         },
     }
 }

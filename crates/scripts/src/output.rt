@@ -1,21 +1,22 @@
 // A script's pairs in a lent buffer.
-use crate::making::Script;
-ghost use Prim.Native.Nat.{_*_, _≤_};
-ghost use mathlib.Core.Path.{_≡_};
-ghost use mathlib.Core.List.{_++_};
-ghost use lib.ListN.{length, drop};
-ghost use Rattle.scripts.specs.Scripts.{flat};
-ghost use Rattle.scripts.specs.Making.{pairsOf, writesOf, InImage};
+use crate::making::Layout;
+use refusal::Count;
+use refusal::Refusal;
+ghost use Rattle.scripts.specs.Making.{InImage, Puts};
 
-pub(crate) fn put_all(script: Script, writes: usize, out: &mut [u8])
-    requires { ⌜ InImage script ⌝ }
-    requires { ⌜ writes ≡ writesOf script ⌝ }
-    requires { ⌜ 2 * writes ≤ length (now out) ⌝ }
-    ensures { λ _. ⌜ now (out .exit) ≡ flat (pairsOf script writes) ++ drop (2 * writes) (now (out .entry)) ⌝ }
+pub(crate) fn put_all(layout: Layout, bytes: [u8; 18], out: &mut [u8]) -> Count
+    requires { ⌜ InImage layout ⌝ }
+    ensures { λ r. ⌜ Puts layout bytes (now (out .entry)) r (now (out .exit)) ⌝ }
 {
-    for k in 0..writes {
-        let pair = script.pair(k);
-        out[2 * k] = pair.address;
-        out[2 * k + 1] = pair.byte;
+    let writes = layout.speeds + (layout.settings + layout.speeds);
+    if out.len() < 2 * writes {
+        return Count::Refused(Refusal::OutputTooShort);
     }
+    for k in 0..writes {
+        let pair = layout.pair(bytes, k);
+        let at = 2 * k;
+        out[at] = pair.address;
+        out[at + 1] = pair.byte;
+    }
+    Count::Of(writes)
 }

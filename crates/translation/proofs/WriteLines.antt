@@ -1,16 +1,14 @@
--- The lines of a script's writes: six bytes each, one behind the other; and the pairs that they show are those of the script's bytes.
+-- The lines of a script's writes: six bytes each, one behind the other.
 -- Assumes nothing.
 use Prim.Native.Nat.{ℕ, zero, suc, _+_, _*_, _≤_, _<_}
-use native.Mathlib.Nat.{le-of-suc-le-suc, not-suc-le-zero}
 use native.Mathlib.Numerals.{add-one}
 use native.Mathlib.Omega.{arith}
-use mathlib.Core.Path.{_≡_, refl, sym, ap, ap₂, _∙_}
+use mathlib.Core.Path.{_≡_, refl, sym, ap, _∙_}
 use mathlib.Core.List.{List, [], _∷_, _++_, append-assoc}
-use lib.ListN.{length, getD, take, length-append}
-use lib.Seq.{take-suc}
-use Rattle.scripts.specs.Scripts.{Pair, flat}
+use lib.ListN.{length, getD, length-append}
+use Rattle.scripts.specs.Scripts.{Pair, pairsIn}
 use Rattle.translation.specs.Text.{writeLine, writeLines}
-use Rattle.translation.specs.Parts.{Adds, pairsIn}
+use Rattle.translation.specs.Parts.{Adds}
 use Rattle.translation.proofs.Adding.{adds-none, adds-then, adds-as}
 
 lines-append : (xs ys : List Pair) → writeLines (xs ++ ys) ≡ writeLines xs ++ writeLines ys
@@ -58,20 +56,3 @@ pub shown-all : {pairs old out : List ℕ} {count at next k : ℕ} → Shown pai
 shown-all {pairs} {old} {out} {count} {at} {next} {k} s h =
     let all : k ≡ count = omega (arith, s .within) in
     adds-as (ap (λ (n : ℕ). writeLines (pairsIn n pairs)) all) (s .front)
-
--- a script's bytes hold its pairs
-flat-at : (ps : List Pair) (rest : List ℕ) (k : ℕ) → k < length ps
-    → (getD (flat ps ++ rest) (2 * k) 0, getD (flat ps ++ rest) (2 * k + 1) 0) ≡ getD ps k (0, 0)
-flat-at [] rest k h = absurd (not-suc-le-zero h)
-flat-at (p ∷ ps) rest zero h = refl
-flat-at (p ∷ ps) rest (suc k) h =
-    let address : 2 * suc k ≡ suc (suc (2 * k)) = omega arith in
-    let byte : 2 * suc k + 1 ≡ suc (suc (2 * k + 1)) = omega arith in
-    ap₂ (λ (m n : ℕ). (getD (flat (p ∷ ps) ++ rest) m 0, getD (flat (p ∷ ps) ++ rest) n 0)) address byte
-    ∙ flat-at ps rest k (le-of-suc-le-suc h)
-
-pub pairs-flat : (ps : List Pair) (rest : List ℕ) (n : ℕ) → n ≤ length ps → pairsIn n (flat ps ++ rest) ≡ take n ps
-pairs-flat ps rest zero h = refl
-pairs-flat ps rest (suc n) h =
-    ap₂ (λ (l : List Pair) (w : Pair). l ++ (w ∷ [])) (pairs-flat ps rest n (omega arith)) (flat-at ps rest n h)
-    ∙ sym (take-suc ps n (0, 0) h)

@@ -1,14 +1,14 @@
 -- The contracts of the parts of `translation`: each adds a text at a place of the buffer. What lies past the buffer's end is only counted.
 -- Assumes nothing.
-use Prim.Native.Nat.{ℕ, zero, suc, _+_, _*_, _≤_}
+use Prim.Native.Nat.{ℕ, _+_, _≤_}
 use mathlib.Core.Path.{_≡_}
-use mathlib.Core.List.{List, [], _∷_, _++_}
-use lib.ListN.{length, getD}
+use mathlib.Core.List.{List}
+use lib.ListN.{length}
 use lib.Seq.{sets}
 use Rattle.refusal.specs.Checks.{first}
 use Rattle.curves.specs.declared.Plan.{Plan}
 use Rattle.plans.specs.Plans.{planChecks}
-use Rattle.scripts.specs.Scripts.{Pair, scriptFor}
+use Rattle.scripts.specs.Scripts.{scriptFor}
 
 -- places stay far below what a number can hold
 abbrev pub Within : ℕ → List ℕ → Type 0
@@ -18,11 +18,6 @@ Within at text = at + length text ≤ 65536
 pub record Adds (text old : List ℕ) (at r : ℕ) (new : List ℕ) : Type 0 where
   pub next : r ≡ at + length text
   pub bytes : new ≡ sets old at text
-
--- the first n pairs of a script's bytes, address first
-abbrev pub pairsIn : ℕ → List ℕ → List Pair
-pairsIn zero bytes = []
-pairsIn (suc n) bytes = pairsIn n bytes ++ ((getD bytes (2 * n) 0, getD bytes (2 * n + 1) 0) ∷ [])
 
 -- no check refuses the plan, and its script has at most 24 writes
 pub record Accepts (plan : Plan) : Type 0 where

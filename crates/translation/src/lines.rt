@@ -4,9 +4,10 @@ use crate::output;
 ghost use Prim.Native.Nat.{_*_, _/_, _%_, _≤_};
 ghost use mathlib.Core.Path.{_≡_};
 ghost use lib.ListN.{length};
+ghost use Rattle.scripts.specs.Scripts.{pairsIn};
 ghost use Rattle.translation.specs.Words.{digit};
 ghost use Rattle.translation.specs.Text.{headerLine, writeLine, writeLines, refusedLine, endLine};
-ghost use Rattle.translation.specs.Parts.{Within, Adds, pairsIn};
+ghost use Rattle.translation.specs.Parts.{Within, Adds};
 
 pub(crate) fn header(
     out: &mut [u8],

@@ -1,63 +1,60 @@
--- `scripts::script` meets its contract: each answer knows how the plan was judged and how long the buffer is.
+-- `scripts::script` meets its contract: each answer knows how the plan was judged when its record was written.
 -- Assumes nothing.
-use Rattle.refusal.specs.Answers.{tells}
-use Rattle.scripts.proofs.Answers.{script-refused, script-cramped, script-written}
-use mathlib.Core.Path.{sym, ap, _∙_}
-use native.Mathlib.Omega.{arith}
+use Rattle.refusal.specs.declared.Count.{Count}
+use Rattle.refusal.specs.Answers.{tellsCount}
+use Rattle.scripts.proofs.Prepared.{in-image, judged, prepared}
+use Rattle.scripts.proofs.Answers.{script-refused, script-put}
+use Rattle.scripts.proofs.Owned.{plan-sized}
+use mathlib.Core.Path.{refl, sym, ap, _∙_}
 use borrow.Author.Needs.{needs}
 use Rattle.scripts.proofs.script.Statement.{statement}
 use Rattle.scripts.proofs.script.Tie as tie
 
-prepare-requires : tie.Need-prepare-requires
-prepare-requires c κs = search needs
+slice-aggregate-write : tie.Need-slice-aggregate-write
+slice-aggregate-write c = search needs
 
-enum-known-ready : tie.Need-enum-known-ready
-enum-known-ready c = search needs
+write-requires : tie.Need-write-requires
+write-requires c κs = search needs
+
+enum-known-refusal : tie.Need-enum-known-refusal
+enum-known-refusal c = search needs
 
 enum-told : tie.Need-enum-told
 enum-told c = search needs
 
-writes-requires : tie.Need-writes-requires
-writes-requires c κs = search needs
+layout-of-requires : tie.Need-layout-of-requires
+layout-of-requires c κs = search needs
 
-mul-if1 : tie.Need-mul-if1
-mul-if1 c = search needs
+put-all-requires : tie.Need-put-all-requires
+put-all-requires c κs = in-image (c .before .layout-of .ensures)
 
 returns : tie.Need-returns
 returns c =
-    let k = c .before .before .before .before .before in
-    let accepted = sym (k .prepare .ensures .answer) ∙ ap tells (c .before .before .enum-told .given .1) in
-    script-cramped _ _ accepted (omega (arith, c .if1 .taken, c .before .writes .ensures, k .prepare .ensures .pairs accepted .writes))
-
-put-all-requires : tie.Need-put-all-requires
-put-all-requires c κs = search needs
-
-returns-2 : tie.Need-returns-2
-returns-2 c =
-    let k = c .before .before .before .before in
-    script-refused _ _ _ (ap tells (sym (c .before .ready .given .1)) ∙ k .prepare .ensures .answer)
+    let wrote = c .before .before .before .before in
+    let sized = plan-sized _ _ (wrote .before .before .before .good .0) in
+    script-refused _ _ _ (ap (λ (u : Count). tellsCount u .0) (sym (c .before .refusal .given .1)) ∙ judged sized refl (wrote .write .ensures))
 
 same-length : tie.Need-same-length
 same-length c = search needs
 
-returns-3 : tie.Need-returns-3
-returns-3 c =
-    let test = c .before .before .before .before in
-    let k = test .before .before .before .before .before in
-    let accepted = sym (k .prepare .ensures .answer) ∙ ap tells (test .before .before .enum-told .given .1) in
-    script-written _ _ accepted (k .prepare .ensures .pairs accepted) (test .before .writes .ensures) (test .if1 .left) (c .before .before .put-all .ensures)
+returns-2 : tie.Need-returns-2
+returns-2 c =
+    let laid = c .before .before .before .before in
+    let wrote = laid .before .before .before .before in
+    let sized = plan-sized _ _ (wrote .before .before .before .good .0) in
+    let accepted = sym (judged sized refl (wrote .write .ensures)) ∙ ap (λ (u : Count). tellsCount u .0) (laid .before .enum-told .given .1) in
+    script-put _ _ accepted (prepared sized refl (wrote .write .ensures) (laid .layout-of .ensures) accepted) (c .before .before .put-all .ensures)
 
 pub script-spec : {M : Type 1} → statement M
 script-spec =
     tie.close
     (tie.spec
-    prepare-requires
-    enum-known-ready
+    slice-aggregate-write
+    write-requires
+    enum-known-refusal
     enum-told
-    writes-requires
-    mul-if1
-    returns
+    layout-of-requires
     put-all-requires
-    returns-2
+    returns
     same-length
-    returns-3)
+    returns-2)

@@ -1,6 +1,6 @@
 -- `plan_lines` meets its contract: the script is written, and the header and its lines are the plan's text.
 -- Assumes nothing.
-use Rattle.translation.proofs.Planned.{never-refused, count, header-within, writes-within, plan-added}
+use Rattle.translation.proofs.Planned.{never-refused, writes, header-within, writes-within, plan-added}
 use mathlib.Core.Path.{refl}
 use native.Mathlib.Omega.{arith}
 use borrow.Author.Needs.{needs}
@@ -41,7 +41,7 @@ writes-requires c κs =
     let at-writes = at-header .before .before .before in
     let at-script = at-writes .before .before .before in
     let at-start = at-script .before .before .before in (
-      omega (arith, count (at-start .pre .0) refl (at-script .script .ensures) _ (at-writes .writes .given .1), at-start .pre .0 .writes, at-script .script .kept .1 .0),
+      omega (arith, writes (at-start .pre .0) refl (at-script .script .ensures) _ (at-writes .writes .given .1), at-start .pre .0 .writes, at-script .script .kept .1 .0),
       writes-within (at-start .pre .0) refl (at-script .script .ensures) _ (at-writes .writes .given .1) _ _ (at-start .pre .1) (at-header .header .ensures .next),
     )
 

@@ -1,0 +1,9 @@
+pub mod Rules
+pub mod Played
+pub mod Fitting
+pub mod Turns
+pub mod Answers
+pub mod NeverRefused
+pub mod NeverSlower
+pub mod Typed
+pub mod Unique

@@ -1,0 +1,151 @@
+-- Played on an image through the cards, a script's writes do what they do to a memory: each goes to a fan table's register, all of whose bits are
+-- writable. A table's registers stand apart, so a script moves no other byte.
+-- Assumes nothing.
+use Prim.Native.Nat.{ℕ, zero, suc, _<_, _^_, suc-le-suc}
+use native.Mathlib.Nat.{suc-inj}
+use native.Mathlib.Omega.{arith}
+use mathlib.Core.Path.{_≡_, refl, sym, ap, _∙_}
+use mathlib.Core.Bool.{Bool, true, false, So}
+use mathlib.Core.List.{List, [], _∷_, _++_}
+use borrow.Author.Tests.{eqb-true, eqb-false}
+use lib.Dec.{eqb}
+use lib.ListN.{length, getD, take}
+use Rattle.cards.specs.declared.Chip.{Chip}
+use Rattle.cards.specs.Rows.{positions}
+use Rattle.cards.specs.Cards.{rowOf, hasTable, tableOf}
+use Rattle.cards.proofs.Tables.{table-mask, table-within, table-distinct}
+use Rattle.images.specs.Bytes.{written}
+use Rattle.images.proofs.Laws.{storedAt-length, storedAt-other, storedAt-full}
+use Rattle.scripts.specs.Scripts.{Pair, writes}
+use Rattle.scripts.specs.Rules.{All, Outside}
+use Rattle.scripts.proofs.Memory.{Memory, put, puts, put-there, put-elsewhere, Distinct, Disjoint}
+use Rattle.scripts.proofs.Safe.{Apart}
+use Rattle.plays.specs.Plays.{played}
+use Rattle.plays.specs.NeverSlower.{Within}
+
+abbrev pub bytesOf : List ℕ → Memory
+bytesOf image position = getD image position 0
+
+-- a register of the image that takes every bit
+abbrev Free : Chip → ℕ → Type 0
+Free chip position = (rowOf chip position .writable ≡ 0xFF) × (position < 256)
+
+-- a write of a byte to such a register
+abbrev Whole : Chip → Pair → Type 0
+Whole chip w = Free chip (w .0) × (w .1 < 2 ^ 8)
+
+abbrev pub AllWhole : Chip → List Pair → Type 0
+AllWhole chip [] = Unit {0}
+AllWhole chip (w ∷ ws) = Whole chip w × AllWhole chip ws
+
+pub played-length : (chip : Chip) (ws : List Pair) (image : List ℕ) → length (played chip ws image) ≡ length image
+played-length chip [] image = refl
+played-length chip (w ∷ ws) image =
+    played-length chip ws (written chip (w .0) (w .1) image) ∙ storedAt-length (rowOf chip (w .0)) (w .0) (w .1) image
+
+written-put : (chip : Chip) (w : Pair) (image : List ℕ) → Whole chip w → length image ≡ 256
+    → bytesOf (written chip (w .0) (w .1) image) ≡ put (bytesOf image) w
+written-put chip w image h e = λ i q. at-each q (eqb q (w .0)) refl i
+  where
+    at-each : (q : ℕ) (there : Bool) → eqb q (w .0) ≡ there → getD (written chip (w .0) (w .1) image) q 0 ≡ put (bytesOf image) w q
+    at-each q true t =
+        let same = eqb-true q (w .0) t in
+        rw same
+        (storedAt-full (rowOf chip (w .0)) (w .0) (w .1) image (h .0 .0) (h .1) (omega (arith, h .0 .1))
+        ∙ sym (put-there (bytesOf image) (w .0) (w .1)))
+    at-each q false t =
+        let other = eqb-false q (w .0) t in
+        storedAt-other (rowOf chip (w .0)) (w .0) (w .1) image q other
+        ∙ sym (put-elsewhere (bytesOf image) (w .0) (w .1) q other)
+
+pub played-puts : (chip : Chip) (ws : List Pair) (image : List ℕ) → AllWhole chip ws → length image ≡ 256
+    → bytesOf (played chip ws image) ≡ puts (bytesOf image) ws
+played-puts chip [] image h e = refl
+played-puts chip (w ∷ ws) image h e =
+    played-puts chip ws (written chip (w .0) (w .1) image) (h .1) (storedAt-length (rowOf chip (w .0)) (w .0) (w .1) image ∙ e)
+    ∙ ap (λ (m : Memory). puts m ws) (written-put chip w image (h .0) e)
+
+pub whole-take : (chip : Chip) (k : ℕ) (ws : List Pair) → AllWhole chip ws → AllWhole chip (take k ws)
+whole-take chip zero ws h = tt
+whole-take chip (suc k) [] h = tt
+whole-take chip (suc k) (w ∷ ws) h = (h .0, whole-take chip k ws (h .1))
+
+pub whole-append : (chip : Chip) (xs ys : List Pair) → AllWhole chip xs → AllWhole chip ys → AllWhole chip (xs ++ ys)
+whole-append chip [] ys h k = k
+whole-append chip (x ∷ xs) ys h k = (h .0, whole-append chip xs ys (h .1) k)
+
+pub whole-writes : (chip : Chip) (registers bytes : List ℕ) → All (Free chip) registers → Within 8 bytes → AllWhole chip (writes registers bytes)
+whole-writes chip [] bytes f b = tt
+whole-writes chip (p ∷ ps) [] f b = tt
+whole-writes chip (p ∷ ps) (x ∷ xs) f b = ((f .0, b .0), whole-writes chip ps xs (f .1) (b .1))
+
+-- from every place of a list to all of its entries
+pub all-of : (P : ℕ → Type 0) (xs : List ℕ) → ((k : ℕ) → k < length xs → P (getD xs k 0)) → All P xs
+all-of P [] h = tt
+all-of P (x ∷ xs) h = (h 0 (omega arith), all-of P xs (λ k l. h (suc k) (suc-le-suc l)))
+
+pub all-left : (P : ℕ → Type 0) (xs ys : List ℕ) → All P (xs ++ ys) → All P xs
+all-left P [] ys a = tt
+all-left P (x ∷ xs) ys a = (a .0, all-left P xs ys (a .1))
+
+pub all-right : (P : ℕ → Type 0) (xs ys : List ℕ) → All P (xs ++ ys) → All P ys
+all-right P [] ys a = a
+all-right P (x ∷ xs) ys a = all-right P xs ys (a .1)
+
+-- what holds of each pair of places of a list, of its entries
+distinct-of : (xs : List ℕ) → ((j k : ℕ) → j < length xs → k < length xs → getD xs j 0 ≡ getD xs k 0 → j ≡ k) → Distinct xs
+distinct-of [] h = tt
+distinct-of (x ∷ xs) h = (
+  all-of (λ q. q ≡ x → ⊥) xs (λ k l e. absurd (omega (arith, h (suc k) 0 (suc-le-suc l) (omega arith) e))),
+  distinct-of xs (λ j k l m e. suc-inj (h (suc j) (suc k) (suc-le-suc l) (suc-le-suc m) e)),
+)
+
+distinct-left : (xs ys : List ℕ) → Distinct (xs ++ ys) → Distinct xs
+distinct-left [] ys d = tt
+distinct-left (x ∷ xs) ys d = (all-left (λ q. q ≡ x → ⊥) xs ys (d .0), distinct-left xs ys (d .1))
+
+distinct-right : (xs ys : List ℕ) → Distinct (xs ++ ys) → Distinct ys
+distinct-right [] ys d = d
+distinct-right (x ∷ xs) ys d = distinct-right xs ys (d .1)
+
+between : (xs ys : List ℕ) → Distinct (xs ++ ys) → Disjoint xs ys
+between [] ys d = tt
+between (x ∷ xs) ys d = (all-right (λ q. q ≡ x → ⊥) xs ys (d .0), between xs ys (d .1))
+
+-- disjoint either way round
+disjoint-nil : (ys : List ℕ) → Disjoint ys []
+disjoint-nil [] = tt
+disjoint-nil (y ∷ ys) = (tt, disjoint-nil ys)
+
+disjoint-cons : (ys : List ℕ) (x : ℕ) (xs : List ℕ) → Outside x ys → Disjoint ys xs → Disjoint ys (x ∷ xs)
+disjoint-cons [] x xs o d = tt
+disjoint-cons (y ∷ ys) x xs o d = ((λ e. o .0 (sym e), d .0), disjoint-cons ys x xs (o .1) (d .1))
+
+turned : (xs ys : List ℕ) → Disjoint xs ys → Disjoint ys xs
+turned [] ys d = disjoint-nil ys
+turned (x ∷ xs) ys d = disjoint-cons ys x xs (d .0) (turned xs ys (d .1))
+
+module _ (chip : Chip) (number : ℕ) (has : So (hasTable chip number)) where
+  abbrev registers : List ℕ
+  registers = positions (tableOf chip number)
+
+  all-free : All (Free chip) registers
+  all-free = all-of (Free chip) registers (λ k l. (table-mask chip number has k l, table-within chip number has k l))
+
+  pub settings-free : All (Free chip) (tableOf chip number .settings)
+  settings-free = all-left (Free chip) (tableOf chip number .settings) (tableOf chip number .speeds) all-free
+
+  pub speeds-free : All (Free chip) (tableOf chip number .speeds)
+  speeds-free = all-right (Free chip) (tableOf chip number .settings) (tableOf chip number .speeds) all-free
+
+  pub table-apart : Apart (tableOf chip number)
+  table-apart =
+      let settings = tableOf chip number .settings in
+      let speeds = tableOf chip number .speeds in
+      let d = distinct-of registers (table-distinct chip number has) in
+      record {
+        settings = distinct-left settings speeds d;
+        speeds = distinct-right settings speeds d;
+        between = between settings speeds d;
+        across = turned settings speeds (between settings speeds d);
+      }

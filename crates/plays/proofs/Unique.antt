@@ -1,0 +1,13 @@
+-- No second answer of `play` meets its contract, and no other bytes: what an answer tells is told by no other answer.
+-- Assumes nothing.
+use Prim.Native.Nat.{ℕ}
+use mathlib.Core.Path.{_≡_, sym, _∙_}
+use mathlib.Core.List.{List}
+use Rattle.refusal.proofs.Answers.{tellsCount-injective}
+use Rattle.refusal.specs.declared.Count.{Count}
+use Rattle.curves.specs.declared.Plan.{Plan}
+use Rattle.plays.specs.Plays.{Plays}
+
+pub plays-unique : {plan : Plan} {old : List ℕ} {count : ℕ} {r s : Count} {l m : List ℕ}
+    → Plays plan old count r l → Plays plan old count s m → (r ≡ s) × (l ≡ m)
+plays-unique {r = r} {s = s} p q = (tellsCount-injective r s (p .answer ∙ sym (q .answer)), p .bytes ∙ sym (q .bytes))

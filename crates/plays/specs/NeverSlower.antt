@@ -1,0 +1,78 @@
+-- Demand 3, in the customer's words, of the very answers that callers get: what `plays::play` leaves in a lent image, and what
+-- `plans::asked_of_image` and `plans::asked_of_plan` answer.
+-- Assumes nothing.
+use Prim.Native.Nat.{ℕ, _≤_, _<_, _^_, min, max}
+use mathlib.Core.Path.{_≡_}
+use mathlib.Core.List.{List}
+use lib.ListN.{length, getD}
+use Rattle.refusal.specs.Checks.{first}
+use Rattle.cards.specs.declared.Chip.{Chip}
+use Rattle.cards.specs.declared.Chip.the-variants.{Nct7802y, F75373s, Nct80}
+use Rattle.cards.specs.declared.Named.the-variants.{Known}
+use Rattle.cards.specs.Rows.{positions}
+use Rattle.cards.specs.Cards.{chipOf, tableOf}
+use Rattle.identities.specs.Identities.{identityChecks}
+use Rattle.curves.specs.declared.Plan.{Plan}
+use Rattle.plans.specs.declared.Asked.{Asked}
+use Rattle.plans.specs.declared.Asked.the-variants.{Speed, Refused}
+use Rattle.curves.specs.Orders.{MoreDuty, LessCount}
+use Rattle.plans.specs.Plans.{planChecks, AsksImage, AsksPlan}
+use Rattle.records.specs.Records.{Sized}
+use Rattle.scripts.specs.Scripts.{scriptFor}
+use Rattle.scripts.specs.Rules.{All, Outside}
+
+-- "More duty is faster; a smaller count is faster": a is at least as fast as b
+abbrev pub AsFast : Chip → ℕ → ℕ → Type 0
+AsFast Nct7802y a b = MoreDuty a b
+AsFast F75373s a b = LessCount a b
+AsFast Nct80 a b = LessCount a b
+
+-- the slower of two speeds
+abbrev pub slower : Chip → ℕ → ℕ → ℕ
+slower Nct7802y a b = min a b
+slower F75373s a b = max a b
+slower Nct80 a b = max a b
+
+-- "never slower than the slower of the old curve and the plan", of three speeds asked; a refusal is none
+abbrev pub NeverSlower : Chip → Asked → Asked → Asked → Type 0
+NeverSlower chip (Speed stop) (Speed old) (Speed plan) = AsFast chip stop (slower chip old plan)
+NeverSlower chip (Speed stop) (Speed old) (Refused r) = ⊥
+NeverSlower chip (Speed stop) (Refused r) plan = ⊥
+NeverSlower chip (Refused r) old plan = ⊥
+
+-- each entry fits a number of bits
+abbrev pub Within : ℕ → List ℕ → Type 0
+Within bits xs = All (λ x. x < 2 ^ bits) xs
+
+-- what its type says of every plan that code holds: the arrays' lengths and the numbers' ranges
+pub record Typed (plan : Plan) : Type 0 where
+  pub sized : Sized plan
+  pub temperatures : Within 8 (plan .temperatures)
+  pub critical : plan .critical < 2 ^ 8
+  pub duties : Within 8 (plan .duties)
+  pub bounds : Within 8 (plan .bounds)
+  pub counts : Within 16 (plan .counts)
+
+-- Demand 3, of a stop: `old` is the image before, `new` the image at the stop, `count` how many writes were asked for.
+pub record Demand3 (chip : Chip) (plan : Plan) (old : List ℕ) (count : ℕ) (new : List ℕ) : Type 0 where
+  -- "At every temperature, the speed asked at the stop is never slower than the slower of the old curve and the plan."
+  pub never-slower : (t : ℕ) (stop before planned : Asked)
+      → AsksImage (plan .chip) (plan .table) new t stop
+      → AsksImage (plan .chip) (plan .table) old t before
+      → AsksPlan plan t planned
+      → NeverSlower chip stop before planned
+  -- "After the last write it is exactly the plan's."
+  pub at-last : length (scriptFor plan) ≤ count → (t : ℕ) (stop planned : Asked)
+      → AsksImage (plan .chip) (plan .table) new t stop
+      → AsksPlan plan t planned
+      → stop ≡ planned
+  -- "At any stop every byte outside that fan table is as before."
+  pub outside : (k : ℕ) → Outside k (positions (tableOf chip (plan .table))) → getD new k 0 ≡ getD old k 0
+  -- and there are as many bytes as before
+  pub as-long : length new ≡ length old
+
+-- What `plays::play` promises of a stop, beside its answer and its bytes: "Take any accepted plan and any starting image whose identity its
+-- chip confirms. Play the plan's script and stop after any number of whole writes, from none to all."
+pub record Safely (plan : Plan) (old : List ℕ) (count : ℕ) (new : List ℕ) : Type 0 where
+  pub stop : (chip : Chip) → chipOf (plan .chip) ≡ Known chip → first (planChecks plan) ≡ 0 → first (identityChecks (plan .chip) old) ≡ 0
+      → Demand3 chip plan old count new
