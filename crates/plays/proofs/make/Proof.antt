@@ -1,4 +1,4 @@
--- `make` meets its contract: identity is as `images` confirms it, and the writes passed are made on the image, each by the model of `images`.
+-- `make` meets its contract: identity is as `identities` confirms it, and the writes passed are made on the image, each by the model of `images`.
 -- Assumes nothing.
 use Rattle.plays.proofs.Turns.{answered, Made, made-none, made-more, makes-all, makes-none}
 use Prim.Native.Nat.{_-_}
