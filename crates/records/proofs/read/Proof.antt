@@ -74,19 +74,19 @@ judged c =
     ∙ complete-judged _ _ (complete (c .before .before .before))
 
 refused-requires : tie.Need-refused-requires
-refused-requires c κs = search needs
+refused-requires c κs = tt
 
 returns : tie.Need-returns
 returns c = record-refused _ (c .refused .ensures) (rw (lt-ltb _ _ (c .before .if1 .taken)))
 
 shared-slice-read-if2 : tie.Need-shared-slice-read-if2
-shared-slice-read-if2 c = search needs
+shared-slice-read-if2 c = omega arith
 
 shared-slice-read-if2-2 : tie.Need-shared-slice-read-if2-2
-shared-slice-read-if2-2 c = search needs
+shared-slice-read-if2-2 c = omega arith
 
 refused-requires-2 : tie.Need-refused-requires-2
-refused-requires-2 c κs = search needs
+refused-requires-2 c κs = tt
 
 returns-2 : tie.Need-returns-2
 returns-2 c =
@@ -95,19 +95,19 @@ returns-2 c =
     record-refused _ (c .refused2 .ensures) (rw (le-ltb _ _ (l .if1 .left), wrong))
 
 shared-slice-read-chip-of : tie.Need-shared-slice-read-chip-of
-shared-slice-read-chip-of c = search needs
+shared-slice-read-chip-of c = omega arith
 
 chip-of-requires : tie.Need-chip-of-requires
-chip-of-requires c κs = search needs
+chip-of-requires c κs = tt
 
 enum-known-chip : tie.Need-enum-known-chip
-enum-known-chip c = search needs
+enum-known-chip c = c .match .keys1
 
 enum-told : tie.Need-enum-told
-enum-told c = search needs
+enum-told c = c .match .keys2
 
 refused-requires-3 : tie.Need-refused-requires-3
-refused-requires-3 c κs = search needs
+refused-requires-3 c κs = tt
 
 returns-3 : tie.Need-returns-3
 returns-3 c =
@@ -116,16 +116,16 @@ returns-3 c =
     record-refused _ (c .refused3 .ensures) (rw (le-ltb _ _ (long m), marked m, e))
 
 shared-slice-read-table : tie.Need-shared-slice-read-table
-shared-slice-read-table c = search needs
+shared-slice-read-table c = omega arith
 
 table-at-requires : tie.Need-table-at-requires
-table-at-requires c κs = search needs
+table-at-requires c κs = tt
 
 enum-told-2 : tie.Need-enum-told-2
-enum-told-2 c = search needs
+enum-told-2 c = c .match2 .keys1
 
 refused-requires-4 : tie.Need-refused-requires-4
-refused-requires-4 c κs = search needs
+refused-requires-4 c κs = tt
 
 returns-4 : tie.Need-returns-4
 returns-4 c =
@@ -135,13 +135,13 @@ returns-4 c =
     record-refused _ (c .refused4 .ensures) (rw (le-ltb _ _ (long (mark k)), marked (mark k), named k, missed))
 
 enum-told-3 : tie.Need-enum-told-3
-enum-told-3 c = search needs
+enum-told-3 c = c .match2 .keys2
 
 record-length-requires : tie.Need-record-length-requires
-record-length-requires c κs = search needs
+record-length-requires c κs = tt
 
 refused-requires-5 : tie.Need-refused-requires-5
-refused-requires-5 c κs = search needs
+refused-requires-5 c κs = tt
 
 returns-5 : tie.Need-returns-5
 returns-5 c =
@@ -153,31 +153,31 @@ returns-5 c =
     record-refused _ (c .refused5 .ensures) (rw (le-ltb _ _ (long (mark k)), marked (mark k), named k, found, lt-ltb _ _ short))
 
 sub-plan-of-body : tie.Need-sub-plan-of-body
-sub-plan-of-body c = search needs
+sub-plan-of-body c = omega arith
 
 part-plan-of-body-start : tie.Need-part-plan-of-body-start
-part-plan-of-body-start c = search needs
+part-plan-of-body-start c = omega arith
 
 part-plan-of-body-end : tie.Need-part-plan-of-body-end
-part-plan-of-body-end c = search needs
+part-plan-of-body-end c = omega arith
 
 plan-of-body-requires : tie.Need-plan-of-body-requires
-plan-of-body-requires c κs = search needs
+plan-of-body-requires c κs = tt
 
 judge-requires : tie.Need-judge-requires
-judge-requires c κs = search needs
+judge-requires c κs = tt
 
 enum-known-refusal : tie.Need-enum-known-refusal
-enum-known-refusal c = search needs
+enum-known-refusal c = c .match3 .keys1
 
 refused-requires-6 : tie.Need-refused-requires-6
-refused-requires-6 c κs = search needs
+refused-requires-6 c κs = tt
 
 returns-6 : tie.Need-returns-6
 returns-6 c = record-refused _ (c .refused6 .ensures) (ap tells (sym (c .before .before .refusal .given .1)) ∙ judged (c .before .before .before .before))
 
 enum-told-4 : tie.Need-enum-told-4
-enum-told-4 c = search needs
+enum-told-4 c = c .match3 .keys2
 
 returns-7 : tie.Need-returns-7
 returns-7 c =

@@ -64,31 +64,31 @@ kept c =
     ∙ length-paste (old j) 0 (recordOf (chip j) (plan j)) (c .loop .at) (omega (arith, c .before .if1 .left)) (omega (arith, long j))
 
 chip-of-requires : tie.Need-chip-of-requires Inv-loop μ-loop
-chip-of-requires c κs = search needs
+chip-of-requires c κs = tt
 
 enum-known-chip : tie.Need-enum-known-chip Inv-loop μ-loop
-enum-known-chip c = search needs
+enum-known-chip c = c .match .keys1
 
 enum-told : tie.Need-enum-told Inv-loop μ-loop
-enum-told c = search needs
+enum-told c = c .match .keys2
 
 returns : tie.Need-returns Inv-loop μ-loop
 returns c = write-refused _ _ Refusal.NoSuchChip (rw (sym (c .before .before .chip-of .ensures .answer) ∙ c .enum-told .given .1))
 
 judge-requires : tie.Need-judge-requires Inv-loop μ-loop
-judge-requires c κs = search needs
+judge-requires c κs = tt
 
 enum-known-refusal : tie.Need-enum-known-refusal Inv-loop μ-loop
-enum-known-refusal c = search needs
+enum-known-refusal c = c .match2 .keys1
 
 returns-2 : tie.Need-returns-2 Inv-loop μ-loop
 returns-2 c = write-refused _ _ _ (ap tells (sym (c .before .refusal .given .1)) ∙ c .before .before .before .judge .ensures .answer)
 
 enum-told-2 : tie.Need-enum-told-2 Inv-loop μ-loop
-enum-told-2 c = search needs
+enum-told-2 c = c .match2 .keys2
 
 record-length-requires : tie.Need-record-length-requires Inv-loop μ-loop
-record-length-requires c κs = search needs
+record-length-requires c κs = tt
 
 returns-3 : tie.Need-returns-3 Inv-loop μ-loop
 returns-3 c =

@@ -11,22 +11,22 @@ array-read-result : tie.Need-array-read-result
 array-read-result c = search needs
 
 returns : tie.Need-returns
-returns c = let a = c .before .args in header-at (a .chip) (a .plan) (a .at) (search needs)
+returns c = let a = c .before .args in header-at (a .chip) (a .plan) (a .at) (c .if1 .taken)
 
 enum-told : tie.Need-enum-told
-enum-told c = search needs
+enum-told c = c .match .keys1
 
 nct7802y-requires : tie.Need-nct7802y-requires
 nct7802y-requires c κs = omega (arith, rw (c .enum-told .given .1) at (c .before .before .before .pre))
 
 enum-told-2 : tie.Need-enum-told-2
-enum-told-2 c = search needs
+enum-told-2 c = c .match .keys2
 
 f75373s-requires : tie.Need-f75373s-requires
 f75373s-requires c κs = omega (arith, rw (c .enum-told2 .given .1) at (c .before .before .before .pre))
 
 enum-told-3 : tie.Need-enum-told-3
-enum-told-3 c = search needs
+enum-told-3 c = c .match .keys3
 
 returns-2 : tie.Need-returns-2
 returns-2 c =

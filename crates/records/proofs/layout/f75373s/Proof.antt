@@ -16,7 +16,7 @@ array-read-result : tie.Need-array-read-result
 array-read-result c = search needs
 
 returns : tie.Need-returns
-returns c = let s = c .before .before in bound-at (s .args .plan) (sized s) (s .args .k) (search needs)
+returns c = let s = c .before .before in bound-at (s .args .plan) (sized s) (s .args .k) (c .before .if1 .taken)
 
 mul-count : tie.Need-mul-count
 mul-count c = search needs
@@ -28,13 +28,13 @@ cast-result : tie.Need-cast-result
 cast-result c = let s = c .before .before .before in record { fits = omega (arith, count-fits (s .args .plan) _ ((s .args .k - 4) / 2) (s .good .0)) }
 
 returns-2 : tie.Need-returns-2
-returns-2 c = let s = c .before .before .before in high-at (s .args .plan) (sized s) (s .args .k) (search needs) (search needs)
+returns-2 c = let s = c .before .before .before in high-at (s .args .plan) (sized s) (s .args .k) (c .before .before .if1 .left) (c .if2 .taken)
 
 cast-result-2 : tie.Need-cast-result-2
 cast-result-2 c = search needs
 
 returns-3 : tie.Need-returns-3
-returns-3 c = let s = c .before .before .before in low-at (s .args .plan) (sized s) (s .args .k) (search needs) (search needs)
+returns-3 c = let s = c .before .before .before in low-at (s .args .plan) (sized s) (s .args .k) (c .before .before .if1 .left) (c .if2 .left)
 
 pub f75373s-spec : {M : Type 1} → statement M
 f75373s-spec =

@@ -15,10 +15,10 @@ array-read-result : tie.Need-array-read-result
 array-read-result c = search needs
 
 returns : tie.Need-returns
-returns c = let s = c .before .before in temperature-at (s .args .plan) (sized s) (s .args .k) (search needs)
+returns c = let s = c .before .before in temperature-at (s .args .plan) (sized s) (s .args .k) (c .before .if1 .taken)
 
 returns-2 : tie.Need-returns-2
-returns-2 c = let s = c .before .before in critical-at (s .args .plan) (sized s) (s .args .k) (search needs)
+returns-2 c = let s = c .before .before in critical-at (s .args .plan) (sized s) (s .args .k) (c .if2 .taken)
 
 sub-result : tie.Need-sub-result
 sub-result c = search needs
@@ -27,7 +27,7 @@ array-read-result-2 : tie.Need-array-read-result-2
 array-read-result-2 c = search needs
 
 returns-3 : tie.Need-returns-3
-returns-3 c = let s = c .before .before .before in duty-at (s .args .plan) (sized s) (s .args .k) (search needs)
+returns-3 c = let s = c .before .before .before in duty-at (s .args .plan) (sized s) (s .args .k) (omega arith)
 
 pub nct7802y-spec : {M : Type 1} → statement M
 nct7802y-spec =
