@@ -23,7 +23,7 @@ use Rattle.cards.specs.Cards.{chipOf, whenKnown, hasTable}
 use Rattle.plans.specs.declared.Plan.{Plan}
 use Rattle.plans.specs.Plans.{decoded, planChecks}
 use Rattle.records.specs.declared.Found.{Found}
-use Rattle.records.specs.Records.{bodyLength, recordLength, recordOf, encoded, chipIn, tableIn, bodyIn, noPlan, planIn, wrongMark, recordChecks, writeChecks, roomChecks, Refuses, Reads, Writes}
+use Rattle.records.specs.Records.{bodyLength, recordLength, encoded, chipIn, tableIn, bodyIn, noPlan, planIn, wrongMark, recordChecks, writeChecks, roomChecks, Refuses, Reads, Writes}
 use Rattle.records.proofs.Chips.{decoded-chip, decoded-table}
 
 -- a refused record
@@ -59,9 +59,9 @@ complete-judged bytes chip C =
     (le-ltb (length bytes) 4 (C .long), C .marked, C .named, decoded-chip chip (tableIn bytes) (bodyIn bytes), decoded-table chip (tableIn bytes) (bodyIn bytes), C .has, le-ltb (length (bodyIn bytes)) (bodyLength chip) body-long)
 
 pub record-accepted : (bytes : List ℕ) (chip : Chip) (n : ℕ) (plan : Plan) → Complete bytes chip → first (recordChecks bytes) ≡ 0
-    → n ≡ recordLength chip → plan ≡ decoded chip (tableIn bytes) (bodyIn bytes) → Reads bytes (record { answer = counted.Of n; plan = plan })
-record-accepted bytes chip n plan C none e d =
-    let used : n ≡ whenKnown (chipOf (chipIn bytes)) recordLength 0 = rw (C .named) e in
+    → n ≡ whenKnown (chipOf (chipIn bytes)) recordLength 0 → plan ≡ decoded chip (tableIn bytes) (bodyIn bytes)
+    → Reads bytes (record { answer = counted.Of n; plan = plan })
+record-accepted bytes chip n plan C none used d =
     let read : plan ≡ planIn bytes = rw (C .named) d in
     record {
       answer = told-passed (recordChecks bytes) n none ∙ ap (told (recordChecks bytes)) used;
@@ -79,26 +79,24 @@ write-refused plan old refusal e =
     }
 
 -- an accepted plan is refused only for want of room
-module _ (chip : Chip) (plan : Plan) (old : List ℕ) (named : chipOf (plan .chip) ≡ Known chip) (judged : first (planChecks plan) ≡ 0) where
-  room : first (writeChecks plan old) ≡ first (roomChecks (recordOf chip plan) old)
-  room = first-passed (planChecks plan) (roomChecks (encoded plan) old) refl judged ∙ (rw named)
+module _ (plan : Plan) (old : List ℕ) (judged : first (planChecks plan) ≡ 0) where
+  room : first (writeChecks plan old) ≡ first (roomChecks (encoded plan) old)
+  room = first-passed (planChecks plan) (roomChecks (encoded plan) old) refl judged
 
-  pub write-short : length old < length (recordOf chip plan) → Writes plan old (counted.Refused Refusal.OutputTooShort) old
+  pub write-short : length old < length (encoded plan) → Writes plan old (counted.Refused Refusal.OutputTooShort) old
   write-short h =
-      let f : 9 ≡ first (writeChecks plan old) = sym (room ∙ (rw (lt-ltb (length old) (length (recordOf chip plan)) h))) in
+      let f : 9 ≡ first (writeChecks plan old) = sym (room ∙ (rw (lt-ltb (length old) (length (encoded plan)) h))) in
       record {
         answer = told-refused Refusal.OutputTooShort (writeChecks plan old) _ f;
         bytes = when-refused Refusal.OutputTooShort _ old f;
       }
 
-  pub write-whole : (n : ℕ) (new : List ℕ) → n ≡ length (recordOf chip plan) → n ≤ length old → new ≡ paste old 0 (recordOf chip plan) n
+  pub write-whole : (n : ℕ) (new : List ℕ) → n ≡ length (encoded plan) → n ≤ length old → new ≡ paste old 0 (encoded plan) n
       → Writes plan old (counted.Of n) new
   write-whole n new e h copied =
-      let f : first (writeChecks plan old) ≡ 0 = room ∙ (rw (le-ltb (length old) (length (recordOf chip plan)) (omega arith))) in
-      let whole : take n (recordOf chip plan) ≡ encoded plan = take-all n (recordOf chip plan) (omega arith) ∙ (rw named) in
-      let long : n ≡ length (encoded plan) = rw named e in
+      let f : first (writeChecks plan old) ≡ 0 = room ∙ (rw (le-ltb (length old) (length (encoded plan)) (omega arith))) in
       let rest : 0 + n ≡ length (encoded plan) = omega arith in
       record {
-        answer = told-passed (writeChecks plan old) n f ∙ ap (told (writeChecks plan old)) long;
-        bytes = copied ∙ (λ i. whole i ++ drop (rest i) old) ∙ when-passed _ old f;
+        answer = told-passed (writeChecks plan old) n f ∙ ap (told (writeChecks plan old)) e;
+        bytes = copied ∙ (λ i. take-all n (encoded plan) (omega arith) i ++ drop (rest i) old) ∙ when-passed _ old f;
       }

@@ -7,11 +7,15 @@ use mathlib.Core.List.{List, [], _∷_, _++_}
 use lib.ListN.{length, getD, length-append, List·getD-append}
 use lib.Seq.{getD-append-add}
 use Rattle.cards.specs.declared.Chip.{Chip}
-use Rattle.cards.specs.declared.Chip.the-variants.{Nct7802y, F75373s}
+use Rattle.cards.specs.declared.Chip.the-variants.{Nct7802y, F75373s, Nct80}
+use Rattle.cards.specs.declared.Named.{Named}
+use Rattle.cards.specs.declared.Named.the-variants.{Known, Unknown}
+use Rattle.cards.specs.Cards.{chipOf, whenKnown}
+use Rattle.cards.proofs.Numbers.{chip-number}
 use Rattle.plans.specs.declared.Plan.{Plan}
 use Rattle.plans.specs.Curves.{halves}
 use Rattle.plans.specs.Plans.{planned}
-use Rattle.records.specs.Records.{header, body, recordOf, Sized}
+use Rattle.records.specs.Records.{header, body, recordLength, recordOf, encoded, Sized}
 
 -- a place of two lists in a row is in the first, or behind it
 in-front : (xs ys : List ℕ) (n k : ℕ) → length xs ≡ n → k < n → getD xs k 0 ≡ getD (xs ++ ys) k 0
@@ -75,11 +79,30 @@ module _ (plan : Plan) (sized : Sized plan) (k : ℕ) where
       ∙ ap (λ (j : ℕ). getD (halves (plan .counts)) j 0) at
       ∙ behind (plan .bounds) (halves (plan .counts)) 4 k (sized .bounds) h
 
-module _ (chip : Chip) (plan : Plan) (at : ℕ) where
-  pub header-at : at < 4 → getD (header (plan .chip) (plan .table)) at 0 ≡ getD (recordOf chip plan) at 0
-  header-at h = in-front (header (plan .chip) (plan .table)) (body (planned chip plan)) 4 at refl h
+-- a record has the header's places, and behind them those of its chip's body
+module _ (plan : Plan) (at : ℕ) where
+  in-header : (named : Named) → at < whenKnown named recordLength 0 → at < 4
+      → getD (header (plan .chip) (plan .table)) at 0 ≡ getD (whenKnown named (λ chip. recordOf chip plan) []) at 0
+  in-header (Known chip) h l = in-front (header (plan .chip) (plan .table)) (body (planned chip plan)) 4 at refl l
+  in-header Unknown h l = absurd (omega arith)
 
-  pub body-at : {named : Chip} → chip ≡ named → 4 ≤ at → getD (body (planned named plan)) (at - 4) 0 ≡ getD (recordOf chip plan) at 0
-  body-at e h =
-      ap (λ (c : Chip). getD (body (planned c plan)) (at - 4) 0) (sym e)
-      ∙ behind (header (plan .chip) (plan .table)) (body (planned chip plan)) 4 at refl h
+  pub header-at : at < whenKnown (chipOf (plan .chip)) recordLength 0 → at < 4
+      → getD (header (plan .chip) (plan .table)) at 0 ≡ getD (encoded plan) at 0
+  header-at h l = in-header (chipOf (plan .chip)) h l
+
+  pub body-at : {chip : Chip} → chipOf (plan .chip) ≡ Known chip → 4 ≤ at → getD (body (planned chip plan)) (at - 4) 0 ≡ getD (encoded plan) at 0
+  body-at {chip} named l = rw named (behind (header (plan .chip) (plan .table)) (body (planned chip plan)) 4 at refl l)
+
+-- which chip's body has a place
+pub first-chip : (number : ℕ) → number ≡ 1 → chipOf number ≡ Known Nct7802y
+first-chip number e = simp e
+
+second : (number at : ℕ) (named : Named) → chipOf number ≡ named → (number ≡ 1 → ⊥) → 4 ≤ at → at < whenKnown named recordLength 0
+    → named ≡ Known F75373s
+second number at (Known Nct7802y) e other l h = absurd (other (chip-number number Nct7802y e))
+second number at (Known F75373s) e other l h = refl
+second number at (Known Nct80) e other l h = absurd (omega arith)
+second number at Unknown e other l h = absurd (omega arith)
+
+pub second-chip : (number at : ℕ) → (number ≡ 1 → ⊥) → 4 ≤ at → at < whenKnown (chipOf number) recordLength 0 → chipOf number ≡ Known F75373s
+second-chip number at other l h = second number at (chipOf number) refl other l h

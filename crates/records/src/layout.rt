@@ -1,13 +1,12 @@
 // The bytes of a record: the mark, chip, table, then the body in register order.
-use cards::Chip;
 use plans::Plan;
 ghost use Prim.Native.Nat.{_<_};
 ghost use mathlib.Core.Path.{_≡_};
 ghost use lib.ListN.{getD};
 ghost use Rattle.cards.specs.declared.Chip.the-variants.{Nct7802y, F75373s};
-ghost use Rattle.plans.specs.Curves.{halves};
+ghost use Rattle.cards.specs.Cards.{chipOf, whenKnown};
 ghost use Rattle.plans.specs.Plans.{planned};
-ghost use Rattle.records.specs.Records.{body, recordLength, recordOf};
+ghost use Rattle.records.specs.Records.{body, recordLength, encoded};
 
 // T1 to T4, critical, FL1 to FL4.
 fn nct7802y(plan: Plan, k: usize) -> u8
@@ -42,19 +41,18 @@ fn f75373s(plan: Plan, k: usize) -> u8
     (count % 256) as u8
 }
 
-// The byte at a place of a chip's record.
-pub(crate) fn byte_of(chip: Chip, plan: Plan, at: usize) -> u8
-    requires { ⌜ at < recordLength chip ⌝ }
-    ensures { λ r. ⌜ r ≡ getD (recordOf chip plan) at 0 ⌝ }
+// The byte at a place of a plan's record. Only chips 1 and 2 have a body.
+pub(crate) fn byte_of(plan: Plan, at: usize) -> u8
+    requires { ⌜ at < whenKnown (chipOf (plan .chip)) recordLength 0 ⌝ }
+    ensures { λ r. ⌜ r ≡ getD (encoded plan) at 0 ⌝ }
 {
     let header = [0x43, 0x50, plan.chip, plan.table];
     if at < 4 {
         return header[at];
     }
     let k = at - 4;
-    match chip {
-        Chip::Nct7802y => nct7802y(plan, k),
-        Chip::F75373s => f75373s(plan, k),
-        Chip::Nct80 => 0,
+    if plan.chip == 1 {
+        return nct7802y(plan, k);
     }
+    f75373s(plan, k)
 }

@@ -1,7 +1,6 @@
 // Plan records: read from bytes, and written to a lent buffer.
 mod layout;
 
-use cards::Chip;
 use cards::Named;
 use cards::Place;
 use plans::Plan;
@@ -9,6 +8,7 @@ use refusal::Count;
 use refusal::Outcome;
 use refusal::Refusal;
 ghost use mathlib.Core.Path.{_≡_};
+ghost use Rattle.cards.specs.Cards.{chipOf, whenKnown};
 ghost use Rattle.records.specs.Records.{recordLength, Reads, Refuses, Writes};
 
 // What is read: the bytes used, and the plan, which is all zeros where the record is refused.
@@ -35,13 +35,14 @@ fn refused(refusal: Refusal) -> Found
 }
 
 // "the bytes used, 13 or 18"; a chip with no fan table has only the header.
-fn record_length(chip: Chip) -> usize
-    ensures { λ r. ⌜ r ≡ recordLength chip ⌝ }
+fn record_length(chip: u8) -> usize
+    ensures { λ r. ⌜ r ≡ whenKnown (chipOf chip) recordLength 0 ⌝ }
 {
     match chip {
-        Chip::Nct7802y => 13,
-        Chip::F75373s => 18,
-        Chip::Nct80 => 4,
+        1 => 13,
+        2 => 18,
+        3 => 4,
+        _ => 0,
     }
 }
 
@@ -55,14 +56,15 @@ pub fn read(bytes: &[u8]) -> Found
     if (bytes[0] != 0x43) | (bytes[1] != 0x50) {
         return refused(Refusal::WrongMark);
     }
-    let Named::Known(chip) = cards::chip_of(bytes[2]) else {
+    let number = bytes[2];
+    let Named::Known(chip) = cards::chip_of(number) else {
         return refused(Refusal::NoSuchChip);
     };
     let table = bytes[3];
     if let Place::Nowhere = cards::table_at(chip, table) {
         return refused(Refusal::NoSuchTable);
     }
-    let length = record_length(chip);
+    let length = record_length(number);
     if bytes.len() < length {
         return refused(Refusal::BodyCutShort);
     }
@@ -80,18 +82,15 @@ pub fn read(bytes: &[u8]) -> Found
 pub fn write(plan: Plan, out: &mut [u8]) -> Count
     ensures { λ r. ⌜ Writes plan (now (out .entry)) r (now (out .exit)) ⌝ }
 {
-    let Named::Known(chip) = cards::chip_of(plan.chip) else {
-        return Count::Refused(Refusal::NoSuchChip);
-    };
     if let Outcome::Refused(refusal) = plans::judge(plan) {
         return Count::Refused(refusal);
     }
-    let length = record_length(chip);
+    let length = record_length(plan.chip);
     if out.len() < length {
         return Count::Refused(Refusal::OutputTooShort);
     }
     for at in 0..length {
-        out[at] = layout::byte_of(chip, plan, at);
+        out[at] = layout::byte_of(plan, at);
     }
     Count::Of(length)
 }

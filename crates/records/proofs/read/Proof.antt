@@ -17,7 +17,7 @@ use Rattle.cards.proofs.Tables.{place-found, place-missed}
 use Rattle.plans.specs.declared.Plan.{Plan}
 use Rattle.plans.specs.Plans.{decoded, planChecks}
 use Rattle.plans.proofs.Registers.{to-the-end}
-use Rattle.records.specs.Records.{bodyLength, wrongMark, chipIn, tableIn, bodyIn, recordChecks}
+use Rattle.records.specs.Records.{bodyLength, recordLength, wrongMark, chipIn, tableIn, bodyIn, recordChecks}
 use Rattle.records.proofs.Answers.{record-refused, mark-wrong, Complete, complete-judged, record-accepted}
 use Rattle.records.proofs.read.Statement.{statement}
 use Rattle.records.proofs.read.Tie as tie
@@ -46,28 +46,32 @@ named : (c : tie.After-known-told) → chipOf (chipIn (bytes c)) ≡ Known (chip
 named c = sym (c .before .before .before .chip-of .ensures .answer) ∙ c .before .chip .given .1
 
 -- a record that lacks nothing
-abbrev known : tie.Else3 → tie.After-known-told
-known c = c .before .before .before .before .before .before
+abbrev known : tie.After-record-length → tie.After-known-told
+known c = c .before .before .before .before .before
 
-complete : (c : tie.Else3) → Complete (bytes (known c)) (chip (known c))
+used : (c : tie.After-record-length) → c .record-length .result ≡ recordLength (chip (known c))
+used c = rw (named (known c)) at (c .record-length .ensures)
+
+complete : (c : tie.Else3) → Complete (bytes (known (c .before))) (chip (known (c .before)))
 complete c =
+    let k = known (c .before) in
     record {
-      long = long (mark (known c));
-      marked = marked (mark (known c));
-      named = named (known c);
+      long = long (mark k);
+      marked = marked (mark k);
+      named = named k;
       has = place-found _ (c .before .before .before .before .table-at .ensures) (c .before .before .enum-told3 .given .1) .0;
-      whole = omega (arith, c .if3 .left, c .before .record-length .ensures);
+      whole = omega (arith, used (c .before));
     }
 
 abbrev plan-in : tie.After-known-told → Plan
 plan-in c = decoded (chip c) (tableIn (bytes c)) (bodyIn (bytes c))
 
-decoded-plan : (c : tie.After-plan-of-body) → c .plan-of-body .result ≡ plan-in (known (c .before .before))
+decoded-plan : (c : tie.After-plan-of-body) → c .plan-of-body .result ≡ plan-in (known (c .before .before .before))
 decoded-plan c =
-    let k = known (c .before .before) in
+    let k = known (c .before .before .before) in
     c .plan-of-body .ensures .answer ∙ ap (decoded (chip k) (tableIn (bytes k))) (to-the-end (bytes k) 4)
 
-judged : (c : tie.After-judge) → tells (c .judge .result) ≡ first (recordChecks (bytes (known (c .before .before .before))))
+judged : (c : tie.After-judge) → tells (c .judge .result) ≡ first (recordChecks (bytes (known (c .before .before .before .before))))
 judged c =
     c .judge .ensures .answer
     ∙ ap (λ (plan : Plan). first (planChecks plan)) (decoded-plan (c .before))
@@ -94,8 +98,8 @@ returns-2 c =
     let wrong = mark-wrong (l .before .before .args .bytes .now) ∙ c .before .if2 .taken in
     record-refused _ (c .refused2 .ensures) (rw (le-ltb _ _ (l .if1 .left), wrong))
 
-shared-slice-read-chip-of : tie.Need-shared-slice-read-chip-of
-shared-slice-read-chip-of c = omega arith
+shared-slice-read-number : tie.Need-shared-slice-read-number
+shared-slice-read-number c = omega arith
 
 chip-of-requires : tie.Need-chip-of-requires
 chip-of-requires c κs = tt
@@ -149,7 +153,7 @@ returns-5 c =
     let k = t .before .before in
     let found = place-found _ (t .table-at .ensures) (c .before .before .before .enum-told3 .given .1) .0 in
     let short : length (bodyIn (bytes k)) < bodyLength (chip k) =
-    omega (arith, c .before .if3 .taken, c .before .before .record-length .ensures, length-drop 4 (bytes k), long (mark k)) in
+    omega (arith, c .before .if3 .taken, used (c .before .before), length-drop 4 (bytes k), long (mark k)) in
     record-refused _ (c .refused5 .ensures) (rw (le-ltb _ _ (long (mark k)), marked (mark k), named k, found, lt-ltb _ _ short))
 
 sub-plan-of-body : tie.Need-sub-plan-of-body
@@ -195,7 +199,7 @@ read-spec =
     shared-slice-read-if2-2
     refused-requires-2
     returns-2
-    shared-slice-read-chip-of
+    shared-slice-read-number
     chip-of-requires
     enum-known-chip
     enum-told

@@ -9,91 +9,63 @@ use mathlib.Core.List.{List}
 use borrow.Author.Needs.{needs}
 use lib.ListN.{length, set}
 use lib.Seq.{paste, paste-suc, length-paste}
-use Rattle.refusal.specs.declared.Refusal.{Refusal}
 use Rattle.refusal.specs.Answers.{tells}
 use Rattle.refusal.specs.Checks.{first}
-use Rattle.cards.specs.declared.Chip.{Chip}
-use Rattle.cards.specs.declared.Named.the-variants.{Known}
-use Rattle.cards.specs.Cards.{chipOf}
 use Rattle.plans.specs.declared.Plan.{Plan}
 use Rattle.plans.specs.Plans.{planChecks}
-use Rattle.records.specs.Records.{recordOf}
+use Rattle.records.specs.Records.{encoded}
 use Rattle.records.proofs.Owned.{plan-sized}
-use Rattle.records.proofs.Encoding.{record-of-plan}
+use Rattle.records.proofs.Encoding.{encoded-of-plan}
 use Rattle.records.proofs.Answers.{write-refused, write-short, write-whole}
 use Rattle.records.proofs.write.Statement.{statement}
 use Rattle.records.proofs.write.Tie as tie
 
 abbrev Inv-loop : tie.InvT-loop
-Inv-loop plan out₀ chip length at₀ out at = (at ≤ length) × (out ≡ paste out₀ 0 (recordOf chip plan) at)
+Inv-loop plan out₀ length at₀ out at = (at ≤ length) × (out ≡ paste out₀ 0 (encoded plan) at)
 
 abbrev μ-loop : tie.MeasureT-loop
-μ-loop plan out₀ chip length at₀ out at = length - at
+μ-loop plan out₀ length at₀ out at = length - at
 
 -- a plan that is accepted
 abbrev Judged : Type 0
 Judged = tie.After-record-length Inv-loop μ-loop
 
 abbrev plan : Judged → Plan
-plan c = c .before .before .before .before .before .before .before .before .before .args .plan
+plan c = c .before .before .before .before .before .args .plan
 
 abbrev old : Judged → List ℕ
-old c = c .before .before .before .before .before .before .before .before .before .args .out .now
-
-abbrev chip : Judged → Chip
-chip c = c .before .before .before .before .before .chip .given .0 .0
-
-named : (c : Judged) → chipOf (plan c .chip) ≡ Known (chip c)
-named c =
-    let k = c .before .before .before .before .before in
-    sym (k .before .before .chip-of .ensures .answer) ∙ k .chip .given .1
+old c = c .before .before .before .before .before .args .out .now
 
 judged : (c : Judged) → first (planChecks (plan c)) ≡ 0
-judged c = sym (c .before .before .before .judge .ensures .answer) ∙ ap tells (c .before .enum-told2 .given .1)
+judged c = sym (c .before .before .before .judge .ensures .answer) ∙ ap tells (c .before .enum-told .given .1)
 
-long : (c : Judged) → c .record-length .result ≡ length (recordOf (chip c) (plan c))
-long c =
-    let start = c .before .before .before .before .before .before .before .before .before in
-    c .record-length .ensures ∙ sym (record-of-plan (chip c) (plan c) (plan-sized (plan c) _ (start .good .0)))
+long : (c : Judged) → c .record-length .result ≡ length (encoded (plan c))
+long c = c .record-length .ensures ∙ sym (encoded-of-plan (plan c) (plan-sized (plan c) _ (c .before .before .before .before .before .good .0)))
 
 -- the buffer keeps its length
 kept : (c : tie.At-loop Inv-loop μ-loop) → length (c .loop .out) ≡ length (old (c .before .before))
 kept c =
     let j = c .before .before in
     ap length (c .loop .inv .1)
-    ∙ length-paste (old j) 0 (recordOf (chip j) (plan j)) (c .loop .at) (omega (arith, c .before .if1 .left)) (omega (arith, long j))
-
-chip-of-requires : tie.Need-chip-of-requires Inv-loop μ-loop
-chip-of-requires c κs = tt
-
-enum-known-chip : tie.Need-enum-known-chip Inv-loop μ-loop
-enum-known-chip c = c .match .keys1
-
-enum-told : tie.Need-enum-told Inv-loop μ-loop
-enum-told c = c .match .keys2
-
-returns : tie.Need-returns Inv-loop μ-loop
-returns c = write-refused _ _ Refusal.NoSuchChip (rw (sym (c .before .before .chip-of .ensures .answer) ∙ c .enum-told .given .1))
+    ∙ length-paste (old j) 0 (encoded (plan j)) (c .loop .at) (omega (arith, c .before .if1 .left)) (omega (arith, long j))
 
 judge-requires : tie.Need-judge-requires Inv-loop μ-loop
 judge-requires c κs = tt
 
 enum-known-refusal : tie.Need-enum-known-refusal Inv-loop μ-loop
-enum-known-refusal c = c .match2 .keys1
+enum-known-refusal c = c .match .keys1
 
-returns-2 : tie.Need-returns-2 Inv-loop μ-loop
-returns-2 c = write-refused _ _ _ (ap tells (sym (c .before .refusal .given .1)) ∙ c .before .before .before .judge .ensures .answer)
+returns : tie.Need-returns Inv-loop μ-loop
+returns c = write-refused _ _ _ (ap tells (sym (c .before .refusal .given .1)) ∙ c .before .before .before .judge .ensures .answer)
 
-enum-told-2 : tie.Need-enum-told-2 Inv-loop μ-loop
-enum-told-2 c = c .match2 .keys2
+enum-told : tie.Need-enum-told Inv-loop μ-loop
+enum-told c = c .match .keys2
 
 record-length-requires : tie.Need-record-length-requires Inv-loop μ-loop
 record-length-requires c κs = tt
 
-returns-3 : tie.Need-returns-3 Inv-loop μ-loop
-returns-3 c =
-    let j = c .before in
-    write-short (chip j) (plan j) _ (named j) (judged j) (omega (arith, c .if1 .taken, long j))
+returns-2 : tie.Need-returns-2 Inv-loop μ-loop
+returns-2 c = let j = c .before in write-short (plan j) _ (judged j) (omega (arith, c .if1 .taken, long j))
 
 loop-holds : tie.Need-loop-holds Inv-loop μ-loop
 loop-holds c = (omega arith, refl)
@@ -113,25 +85,22 @@ loop-less c = search needs
 loop-again : tie.Need-loop-again Inv-loop μ-loop
 loop-again c =
     let l = c .before .before in
-    let j = l .before .before in
-    let record-at = recordOf (chip j) (plan j) in
-    (
+    let j = l .before .before in (
       omega arith,
       (λ i. set (l .loop .inv .1 i) (sym (zero-add (l .loop .at)) i) (c .byte-of .ensures i))
-          ∙ paste-suc (old j) 0 record-at (l .loop .at) 0 (omega (arith, l .before .if1 .left)) (omega (arith, long j))
-          ∙ ap (paste (old j) 0 record-at) (sym (add-one (l .loop .at))),
+          ∙ paste-suc (old j) 0 (encoded (plan j)) (l .loop .at) 0 (omega (arith, l .before .if1 .left)) (omega (arith, long j))
+          ∙ ap (paste (old j) 0 (encoded (plan j))) (sym (add-one (l .loop .at))),
     )
 
 same-length : tie.Need-same-length Inv-loop μ-loop
 same-length c = kept (c .before)
 
-returns-4 : tie.Need-returns-4 Inv-loop μ-loop
-returns-4 c =
+returns-3 : tie.Need-returns-3 Inv-loop μ-loop
+returns-3 c =
     let l = c .before in
     let j = l .before .before in
     let all : l .loop .at ≡ j .record-length .result = omega (arith, l .loop .inv .0, c .loop-test .left) in
-    write-whole (chip j) (plan j) _ (named j) (judged j) _ _ (long j) (l .before .if1 .left)
-    (l .loop .inv .1 ∙ ap (paste (old j) 0 (recordOf (chip j) (plan j))) all)
+    write-whole (plan j) _ (judged j) _ _ (long j) (l .before .if1 .left) (l .loop .inv .1 ∙ ap (paste (old j) 0 (encoded (plan j))) all)
 
 pub write-spec : {M : Type 1} → statement M
 write-spec =
@@ -139,16 +108,12 @@ write-spec =
     (tie.spec
     Inv-loop
     μ-loop
-    chip-of-requires
-    enum-known-chip
-    enum-told
-    returns
     judge-requires
     enum-known-refusal
-    returns-2
-    enum-told-2
+    returns
+    enum-told
     record-length-requires
-    returns-3
+    returns-2
     loop-holds
     byte-of-requires
     slice-write-out
@@ -156,4 +121,4 @@ write-spec =
     loop-less
     loop-again
     same-length
-    returns-4)
+    returns-3)
