@@ -18,7 +18,7 @@ use Rattle.refusal.specs.declared.Count.{Count}
 use Rattle.refusal.specs.declared.Count.the-variants as counted
 use Rattle.refusal.specs.Answers.{tellsCount}
 use Rattle.cards.specs.declared.Chip.{Chip}
-use Rattle.cards.specs.declared.Named.the-variants.{Known}
+use Rattle.cards.specs.declared.Named.the-variants.{Known, Unknown}
 use Rattle.cards.specs.Cards.{chipOf, whenKnown, hasTable}
 use Rattle.plans.specs.declared.Plan.{Plan}
 use Rattle.plans.specs.Plans.{decoded, planChecks}
@@ -42,6 +42,28 @@ either false b = refl
 
 pub mark-wrong : (bytes : List ℕ) → wrongMark bytes ≡ (not (eqb (getD bytes 0 0) 0x43) || not (eqb (getD bytes 1 0) 0x50))
 mark-wrong bytes = either (eqb (getD bytes 0 0) 0x43) (eqb (getD bytes 1 0) 0x50)
+
+-- which check of a record applies first, those before it being passed
+module _ (bytes : List ℕ) where
+  pub header-short : length bytes < 4 → 1 ≡ first (recordChecks bytes)
+  header-short h = rw (lt-ltb (length bytes) 4 h)
+
+  module _ (long : 4 ≤ length bytes) where
+    pub mark-bad : wrongMark bytes ≡ true → 2 ≡ first (recordChecks bytes)
+    mark-bad h = rw (le-ltb (length bytes) 4 long, h)
+
+    module _ (marked : wrongMark bytes ≡ false) where
+      pub chip-unknown : chipOf (chipIn bytes) ≡ Unknown → 3 ≡ first (recordChecks bytes)
+      chip-unknown e = rw (le-ltb (length bytes) 4 long, marked, e)
+
+      module _ {chip : Chip} (named : chipOf (chipIn bytes) ≡ Known chip) where
+        pub table-missing : hasTable chip (tableIn bytes) ≡ false → 4 ≡ first (recordChecks bytes)
+        table-missing h = rw (le-ltb (length bytes) 4 long, marked, named, h)
+
+        pub body-short : hasTable chip (tableIn bytes) ≡ true → length bytes < recordLength chip → 5 ≡ first (recordChecks bytes)
+        body-short has h =
+            let short : length (bodyIn bytes) < bodyLength chip = omega (arith, length-drop 4 bytes) in
+            rw (le-ltb (length bytes) 4 long, marked, named, has, lt-ltb (length (bodyIn bytes)) (bodyLength chip) short)
 
 -- a record that lacks nothing: what is left to check is what its plan is judged by
 pub record Complete (bytes : List ℕ) (chip : Chip) : Type 0 where

@@ -12,13 +12,13 @@ use Rattle.refusal.specs.Checks.{first}
 use Rattle.refusal.specs.Answers.{tells}
 use Rattle.cards.specs.declared.Chip.{Chip}
 use Rattle.cards.specs.declared.Named.the-variants.{Known}
-use Rattle.cards.specs.Cards.{chipOf}
+use Rattle.cards.specs.Cards.{chipOf, hasTable}
 use Rattle.cards.proofs.Tables.{place-found, place-missed}
 use Rattle.plans.specs.declared.Plan.{Plan}
 use Rattle.plans.specs.Plans.{decoded, planChecks}
 use Rattle.plans.proofs.Registers.{to-the-end}
 use Rattle.records.specs.Records.{bodyLength, recordLength, wrongMark, chipIn, tableIn, bodyIn, recordChecks}
-use Rattle.records.proofs.Answers.{record-refused, mark-wrong, Complete, complete-judged, record-accepted}
+use Rattle.records.proofs.Answers.{record-refused, mark-wrong, header-short, mark-bad, chip-unknown, table-missing, body-short, Complete, complete-judged, record-accepted}
 use Rattle.records.proofs.read.Statement.{statement}
 use Rattle.records.proofs.read.Tie as tie
 
@@ -52,6 +52,9 @@ known c = c .before .before .before .before .before
 used : (c : tie.After-record-length) → c .record-length .result ≡ recordLength (chip (known c))
 used c = rw (named (known c)) at (c .record-length .ensures)
 
+has : (c : tie.After-record-length) → hasTable (chip (known c)) (tableIn (bytes (known c))) ≡ true
+has c = place-found _ (c .before .before .before .table-at .ensures) (c .before .enum-told3 .given .1) .0
+
 complete : (c : tie.Else3) → Complete (bytes (known (c .before))) (chip (known (c .before)))
 complete c =
     let k = known (c .before) in
@@ -59,7 +62,7 @@ complete c =
       long = long (mark k);
       marked = marked (mark k);
       named = named k;
-      has = place-found _ (c .before .before .before .before .table-at .ensures) (c .before .before .enum-told3 .given .1) .0;
+      has = has (c .before);
       whole = omega (arith, used (c .before));
     }
 
@@ -81,7 +84,7 @@ refused-requires : tie.Need-refused-requires
 refused-requires c κs = tt
 
 returns : tie.Need-returns
-returns c = record-refused _ (c .refused .ensures) (rw (lt-ltb _ _ (c .before .if1 .taken)))
+returns c = record-refused _ (c .refused .ensures) (header-short (c .before .before .before .args .bytes .now) (c .before .if1 .taken))
 
 shared-slice-read-if2 : tie.Need-shared-slice-read-if2
 shared-slice-read-if2 c = omega arith
@@ -95,8 +98,8 @@ refused-requires-2 c κs = tt
 returns-2 : tie.Need-returns-2
 returns-2 c =
     let l = c .before .before .before .before in
-    let wrong = mark-wrong (l .before .before .args .bytes .now) ∙ c .before .if2 .taken in
-    record-refused _ (c .refused2 .ensures) (rw (le-ltb _ _ (l .if1 .left), wrong))
+    let b = l .before .before .args .bytes .now in
+    record-refused _ (c .refused2 .ensures) (mark-bad b (l .if1 .left) (mark-wrong b ∙ c .before .if2 .taken))
 
 shared-slice-read-number : tie.Need-shared-slice-read-number
 shared-slice-read-number c = omega arith
@@ -117,7 +120,7 @@ returns-3 : tie.Need-returns-3
 returns-3 c =
     let m = c .before .before .before .before .before in
     let e = sym (c .before .before .before .chip-of .ensures .answer) ∙ c .before .enum-told .given .1 in
-    record-refused _ (c .refused3 .ensures) (rw (le-ltb _ _ (long m), marked m, e))
+    record-refused _ (c .refused3 .ensures) (chip-unknown (start m .args .bytes .now) (long m) (marked m) e)
 
 shared-slice-read-table : tie.Need-shared-slice-read-table
 shared-slice-read-table c = omega arith
@@ -135,8 +138,8 @@ returns-4 : tie.Need-returns-4
 returns-4 c =
     let t = c .before .before .before in
     let k = t .before .before in
-    let missed = place-missed (t .table-at .ensures) (c .before .enum-told2 .given .1) in
-    record-refused _ (c .refused4 .ensures) (rw (le-ltb _ _ (long (mark k)), marked (mark k), named k, missed))
+    record-refused _ (c .refused4 .ensures)
+    (table-missing (bytes k) (long (mark k)) (marked (mark k)) (named k) (place-missed (t .table-at .ensures) (c .before .enum-told2 .given .1)))
 
 enum-told-3 : tie.Need-enum-told-3
 enum-told-3 c = c .match2 .keys2
@@ -149,12 +152,10 @@ refused-requires-5 c κs = tt
 
 returns-5 : tie.Need-returns-5
 returns-5 c =
-    let t = c .before .before .before .before .before in
-    let k = t .before .before in
-    let found = place-found _ (t .table-at .ensures) (c .before .before .before .enum-told3 .given .1) .0 in
-    let short : length (bodyIn (bytes k)) < bodyLength (chip k) =
-    omega (arith, c .before .if3 .taken, used (c .before .before), length-drop 4 (bytes k), long (mark k)) in
-    record-refused _ (c .refused5 .ensures) (rw (le-ltb _ _ (long (mark k)), marked (mark k), named k, found, lt-ltb _ _ short))
+    let l = c .before .before in
+    let k = known l in
+    record-refused _ (c .refused5 .ensures)
+    (body-short (bytes k) (long (mark k)) (marked (mark k)) (named k) (has l) (omega (arith, c .before .if3 .taken, used l)))
 
 sub-plan-of-body : tie.Need-sub-plan-of-body
 sub-plan-of-body c = omega arith
