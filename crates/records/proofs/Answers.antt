@@ -3,18 +3,17 @@
 use Prim.Native.Nat.{ℕ, _+_, _-_, _≤_, _<_}
 use native.Mathlib.Omega.{arith}
 use mathlib.Core.Path.{_≡_, refl, sym, ap, _∙_}
-use mathlib.Core.Bool.{Bool, true, false, not, _&&_, _||_, cond}
+use mathlib.Core.Bool.{Bool, true, false, not, _&&_, _||_}
 use mathlib.Core.List.{List, _++_}
 use borrow.Author.Tests.{lt-ltb, le-ltb}
 use lib.Dec.{eqb}
-use lib.ListN.{length, getD, take, drop, length-drop}
+use lib.ListN.{length, getD, drop, length-drop}
 use lib.Seq.{take-all, paste}
 use Rattle.refusal.specs.declared.Refusal.{Refusal}
 use Rattle.refusal.specs.Refusals.{numberOf}
 use Rattle.refusal.specs.Checks.{first, told}
 use Rattle.refusal.proofs.Numbers.{numberOf-positive}
 use Rattle.refusal.proofs.Passed.{first-passed, first-refused, when-passed, when-refused, told-passed, told-refused}
-use Rattle.refusal.specs.declared.Count.{Count}
 use Rattle.refusal.specs.declared.Count.the-variants as counted
 use Rattle.refusal.specs.Answers.{tellsCount}
 use Rattle.cards.specs.declared.Chip.{Chip}

@@ -3,10 +3,10 @@
 use Prim.Native.Nat.{ℕ, suc, _+_, _≤_, _<_}
 use native.Mathlib.Omega.{arith}
 use mathlib.Core.Path.{_≡_, refl, sym, ap, _∙_}
-use mathlib.Core.Bool.{true, not, and-eq-true-iff}
+use mathlib.Core.Bool.{and-eq-true-iff}
 use mathlib.Core.List.{List, [], _∷_, _++_}
 use borrow.Author.Tests.{ltb-false, le-ltb, eqb-true, not-false}
-use lib.Dec.{eqb, ltb, lit<}
+use lib.Dec.{eqb}
 use lib.ListN.{length, getD, take, drop, length-append, length-drop}
 use lib.Seq.{getD-drop, length-take-le}
 use Rattle.refusal.specs.Checks.{Check, first, told}
@@ -17,13 +17,13 @@ use Rattle.refusal.specs.Answers.{tellsCount}
 use Rattle.refusal.proofs.Answers.{tellsCount-injective}
 use Rattle.cards.specs.declared.Chip.{Chip}
 use Rattle.cards.specs.declared.Named.the-variants.{Known}
-use Rattle.cards.specs.Cards.{chipOf, whenKnown, unknown, noTable, hasTable}
+use Rattle.cards.specs.Cards.{chipOf, whenKnown}
 use Rattle.cards.proofs.Numbers.{chip-number, chip-known}
 use Rattle.plans.specs.declared.Plan.{Plan}
-use Rattle.plans.specs.Plans.{planned, decoded, temperaturesOut, speedsOut, planChecks}
+use Rattle.plans.specs.Plans.{decoded, planChecks}
 use Rattle.plans.proofs.Laws.{accepted, accepted-known}
 use Rattle.records.specs.declared.Found.{Found}
-use Rattle.records.specs.Records.{body, bodyLength, recordLength, recordOf, encoded, chipIn, tableIn, bodyIn, noPlan, planIn, headerCutShort, wrongMark, bodyCutShort, recordChecks, roomChecks, writeChecks, ownOf, own, Sized, Reads, Writes}
+use Rattle.records.specs.Records.{bodyLength, recordLength, recordOf, encoded, chipIn, tableIn, bodyIn, noPlan, planIn, recordChecks, roomChecks, writeChecks, ownOf, own, Sized, Reads, Writes}
 use Rattle.records.proofs.Chips.{decoded-chip, decoded-table}
 use Rattle.records.proofs.Answers.{Complete, complete-judged}
 use Rattle.records.proofs.Encoding.{record-of-plan, decode-encode, own-judged, encode-decode}

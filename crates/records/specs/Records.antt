@@ -13,7 +13,7 @@ use Rattle.refusal.specs.Answers.{tellsCount}
 use Rattle.refusal.specs.Checks.{Check, first, told, left}
 use Rattle.cards.specs.declared.Chip.{Chip}
 use Rattle.cards.specs.declared.Chip.the-variants.{Nct7802y, F75373s, Nct80}
-use Rattle.cards.specs.Cards.{chipOf, whenKnown, unknown, hasTable, noTable}
+use Rattle.cards.specs.Cards.{chipOf, whenKnown, unknown, noTable}
 use Rattle.plans.specs.declared.Plan.{Plan}
 use Rattle.plans.specs.Plans.{Curve, planned, zeros, decoded, temperaturesOut, speedsOut, planChecks}
 use Rattle.records.specs.declared.Found.{Found}

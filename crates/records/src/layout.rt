@@ -13,12 +13,12 @@ fn nct7802y(plan: Plan, k: usize) -> u8
     requires { ⌜ k < 9 ⌝ }
     ensures { λ r. ⌜ r ≡ getD (body (planned Nct7802y plan)) k 0 ⌝ }
 {
+    if k == 4 {
+        return plan.critical;
+    }
     if k < 4 {
         let temperatures = plan.temperatures;
         return temperatures[k];
-    }
-    if k == 4 {
-        return plan.critical;
     }
     let duties = plan.duties;
     duties[k - 5]

@@ -1,13 +1,11 @@
 -- `records::read` meets its contract: each answer knows how the tests before it ended.
 -- Assumes nothing.
-use Prim.Native.Nat.{ℕ, _≤_, _<_}
+use Prim.Native.Nat.{ℕ, _≤_}
 use native.Mathlib.Omega.{arith}
 use mathlib.Core.Path.{_≡_, sym, ap, _∙_}
 use mathlib.Core.Bool.{true, false}
 use mathlib.Core.List.{List}
-use borrow.Author.Tests.{lt-ltb, le-ltb}
-use borrow.Author.Needs.{needs}
-use lib.ListN.{length, length-drop}
+use lib.ListN.{length}
 use Rattle.refusal.specs.Checks.{first}
 use Rattle.refusal.specs.Answers.{tells}
 use Rattle.cards.specs.declared.Chip.{Chip}
@@ -17,7 +15,7 @@ use Rattle.cards.proofs.Tables.{place-found, place-missed}
 use Rattle.plans.specs.declared.Plan.{Plan}
 use Rattle.plans.specs.Plans.{decoded, planChecks}
 use Rattle.plans.proofs.Registers.{to-the-end}
-use Rattle.records.specs.Records.{bodyLength, recordLength, wrongMark, chipIn, tableIn, bodyIn, recordChecks}
+use Rattle.records.specs.Records.{recordLength, wrongMark, chipIn, tableIn, bodyIn, recordChecks}
 use Rattle.records.proofs.Answers.{record-refused, mark-wrong, header-short, mark-bad, chip-unknown, table-missing, body-short, Complete, complete-judged, record-accepted}
 use Rattle.records.proofs.read.Statement.{statement}
 use Rattle.records.proofs.read.Tie as tie

@@ -11,14 +11,14 @@ use Rattle.records.proofs.layout.nct7802y.Tie as tie
 sized : (c : tie.Start) → Sized (c .args .plan)
 sized c = plan-sized (c .args .plan) _ (c .good .0)
 
+returns : tie.Need-returns
+returns c = let s = c .before in critical-at (s .args .plan) (sized s) (s .args .k) (c .if1 .taken)
+
 array-read-result : tie.Need-array-read-result
 array-read-result c = search needs
 
-returns : tie.Need-returns
-returns c = let s = c .before .before in temperature-at (s .args .plan) (sized s) (s .args .k) (c .before .if1 .taken)
-
 returns-2 : tie.Need-returns-2
-returns-2 c = let s = c .before .before in critical-at (s .args .plan) (sized s) (s .args .k) (c .if2 .taken)
+returns-2 c = let s = c .before .before .before in temperature-at (s .args .plan) (sized s) (s .args .k) (c .before .if2 .taken)
 
 sub-result : tie.Need-sub-result
 sub-result c = search needs
@@ -32,4 +32,4 @@ returns-3 c = let s = c .before .before .before in duty-at (s .args .plan) (size
 pub nct7802y-spec : {M : Type 1} → statement M
 nct7802y-spec =
     tie.close
-    (tie.spec array-read-result returns returns-2 sub-result array-read-result-2 returns-3)
+    (tie.spec returns array-read-result returns-2 sub-result array-read-result-2 returns-3)
