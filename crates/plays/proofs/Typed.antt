@@ -13,7 +13,7 @@ use denote.Shadow.{shadow}
 use denote.Struct.Declared.{row}
 use Rattle.curves.specs.declared.Plan.{Plan}
 use Rattle.curves.proofs.Plan as declared
-use Rattle.scripts.proofs.Owned.{plan-sized}
+use Rattle.records.proofs.Owned.{plan-sized}
 use Rattle.plays.specs.NeverSlower.{Within, Typed}
 use Rattle.plays.proofs.Played.{all-of}
 

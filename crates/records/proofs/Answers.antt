@@ -1,39 +1,31 @@
--- What the parts of the reader and of the writer answer is what the whole promises, once the tests before them are known.
+-- What the reader and the writer answer is what they promise, once the tests on the way are known.
 -- Assumes nothing.
-use Prim.Native.Nat.{ℕ, _+_, _-_, _≤_}
+use Prim.Native.Nat.{ℕ, _+_, _≤_, _<_}
+use native.Mathlib.Omega.{arith}
 use mathlib.Core.Path.{_≡_, refl, sym, ap, _∙_}
-use mathlib.Core.Bool.{true, cond}
+use mathlib.Core.Bool.{Bool, true, false, not, _&&_, _||_}
 use mathlib.Core.List.{List, _++_}
-use borrow.Author.Tests.{eq-eqb, le-ltb}
+use borrow.Author.Tests.{lt-ltb, le-ltb}
 use lib.Dec.{eqb}
-use lib.ListN.{length, getD, take, drop}
+use lib.ListN.{length, getD, take, drop, length-drop}
+use lib.Seq.{take-all, paste}
 use Rattle.refusal.specs.declared.Refusal.{Refusal}
 use Rattle.refusal.specs.Refusals.{numberOf}
-use Rattle.refusal.specs.Checks.{first}
+use Rattle.refusal.specs.Checks.{first, told}
 use Rattle.refusal.proofs.Numbers.{numberOf-positive}
-use Rattle.refusal.proofs.Passed.{first-passed, first-refused, when-refused, told-refused}
-use Rattle.refusal.specs.declared.Count.{Count}
+use Rattle.refusal.proofs.Passed.{first-passed, first-refused, when-passed, when-refused, told-passed, told-refused}
 use Rattle.refusal.specs.declared.Count.the-variants as counted
 use Rattle.refusal.specs.Answers.{tellsCount}
 use Rattle.cards.specs.declared.Chip.{Chip}
 use Rattle.cards.specs.declared.Named.the-variants.{Known}
-use Rattle.cards.specs.Cards.{chipOf, hasTable}
+use Rattle.cards.specs.Cards.{chipOf, whenKnown, hasTable}
 use Rattle.curves.specs.declared.Plan.{Plan}
 use Rattle.plans.specs.Plans.{decoded, planChecks}
-use Rattle.plans.proofs.Registers.{to-the-end}
 use Rattle.records.specs.declared.Found.{Found}
-use Rattle.records.specs.Records.{bodyLength, recordOf, encoded, chipIn, tableIn, noPlan, planIn, recordChecks, writeChecks, roomChecks, bodyChecks, Refuses, ReadsBody, Reads, Puts, Writes}
+use Rattle.records.specs.Records.{bodyLength, recordLength, recordOf, encoded, chipIn, tableIn, bodyIn, noPlan, planIn, wrongMark, recordChecks, writeChecks, roomChecks, Refuses, Reads, Writes}
 use Rattle.records.proofs.Chips.{decoded-chip, decoded-table}
 
 -- a refused record
-pub body-refused : (chip : Chip) (table : ℕ) (rest : List ℕ) {refusal : Refusal} {r : Found} → Refuses refusal r
-    → numberOf refusal ≡ first (bodyChecks chip table rest) → ReadsBody chip table rest r
-body-refused chip table rest {refusal} R e =
-    record {
-      answer = ap tellsCount (R .answer) ∙ told-refused refusal (bodyChecks chip table rest) _ e;
-      plan = R .plan ∙ when-refused refusal (decoded chip table rest) noPlan e;
-    }
-
 pub record-refused : (bytes : List ℕ) {refusal : Refusal} {r : Found} → Refuses refusal r
     → numberOf refusal ≡ first (recordChecks bytes) → Reads bytes r
 record-refused bytes {refusal} R e =
@@ -42,21 +34,38 @@ record-refused bytes {refusal} R e =
       plan = R .plan ∙ when-refused refusal (planIn bytes) noPlan e;
     }
 
--- what is left to check of a whole body is what its plan is judged by
-pub body-judged : (chip : Chip) (table : ℕ) (rest : List ℕ) → hasTable chip table ≡ true → bodyLength chip ≤ length rest
-    → first (planChecks (decoded chip table rest)) ≡ first (bodyChecks chip table rest)
-body-judged chip table rest has h =
-    rw (decoded-chip chip table rest, decoded-table chip table rest, has, le-ltb (length rest) (bodyLength chip) h)
+-- a mark is wrong where one of its two bytes is
+either : (a b : Bool) → not (a && b) ≡ (not a || not b)
+either true b = refl
+either false b = refl
 
--- behind a good header
-pub header-passed : (bytes : List ℕ) (chip : Chip) (r : Found) → 4 ≤ length bytes → getD bytes 0 0 ≡ 0x43 → getD bytes 1 0 ≡ 0x50
-    → chipOf (chipIn bytes) ≡ Known chip → ReadsBody chip (tableIn bytes) (take (length bytes - 4) (drop 4 bytes)) r → Reads bytes r
-header-passed bytes chip r long m n e B =
-    let whole : ReadsBody chip (tableIn bytes) (drop 4 bytes) r = rw (to-the-end bytes 4) at B in
-    let a = le-ltb (length bytes) 4 long in
-    let f = eq-eqb (getD bytes 0 0) 0x43 m in
-    let g = eq-eqb (getD bytes 1 0) 0x50 n in
-    record { answer = rw (a, f, g, e) (whole .answer); plan = rw (a, f, g, e) (whole .plan) }
+pub mark-wrong : (bytes : List ℕ) → wrongMark bytes ≡ (not (eqb (getD bytes 0 0) 0x43) || not (eqb (getD bytes 1 0) 0x50))
+mark-wrong bytes = either (eqb (getD bytes 0 0) 0x43) (eqb (getD bytes 1 0) 0x50)
+
+-- a record that lacks nothing: what is left to check is what its plan is judged by
+pub record Complete (bytes : List ℕ) (chip : Chip) : Type 0 where
+  pub long : 4 ≤ length bytes
+  pub marked : wrongMark bytes ≡ false
+  pub named : chipOf (chipIn bytes) ≡ Known chip
+  pub has : hasTable chip (tableIn bytes) ≡ true
+  pub whole : recordLength chip ≤ length bytes
+
+pub complete-judged : (bytes : List ℕ) (chip : Chip) → Complete bytes chip
+    → first (planChecks (decoded chip (tableIn bytes) (bodyIn bytes))) ≡ first (recordChecks bytes)
+complete-judged bytes chip C =
+    let body-long : bodyLength chip ≤ length (bodyIn bytes) = omega (arith, C .whole, length-drop 4 bytes) in
+    rw
+    (le-ltb (length bytes) 4 (C .long), C .marked, C .named, decoded-chip chip (tableIn bytes) (bodyIn bytes), decoded-table chip (tableIn bytes) (bodyIn bytes), C .has, le-ltb (length (bodyIn bytes)) (bodyLength chip) body-long)
+
+pub record-accepted : (bytes : List ℕ) (chip : Chip) (n : ℕ) (plan : Plan) → Complete bytes chip → first (recordChecks bytes) ≡ 0
+    → n ≡ recordLength chip → plan ≡ decoded chip (tableIn bytes) (bodyIn bytes) → Reads bytes (record { answer = counted.Of n; plan = plan })
+record-accepted bytes chip n plan C none e d =
+    let used : n ≡ whenKnown (chipOf (chipIn bytes)) recordLength 0 = rw (C .named) e in
+    let read : plan ≡ planIn bytes = rw (C .named) d in
+    record {
+      answer = told-passed (recordChecks bytes) n none ∙ ap (told (recordChecks bytes)) used;
+      plan = read ∙ when-passed (planIn bytes) noPlan none;
+    }
 
 -- a refused write alters no byte
 pub write-refused : (plan : Plan) (old : List ℕ) (refusal : Refusal) → numberOf refusal ≡ first (planChecks plan)
@@ -69,13 +78,26 @@ write-refused plan old refusal e =
     }
 
 -- an accepted plan is refused only for want of room
-pub write-accepted : (chip : Chip) (plan : Plan) (old : List ℕ) (r : Count) (new : List ℕ) → chipOf (plan .chip) ≡ Known chip
-    → first (planChecks plan) ≡ 0 → Puts (recordOf chip plan) old r new → Writes plan old r new
-write-accepted chip plan old r new e h P =
-    let whole : encoded plan ≡ recordOf chip plan = rw e in
-    let room : Puts (encoded plan) old r new = rw whole P in
-    let f = first-passed (planChecks plan) (roomChecks (encoded plan) old) refl h in
-    record {
-      answer = room .answer ∙ ap (λ (n : ℕ). (n, cond (eqb n 0) (length (encoded plan)) 0)) (sym f);
-      bytes = room .bytes ∙ ap (λ (n : ℕ). cond (eqb n 0) (encoded plan ++ drop (length (encoded plan)) old) old) (sym f);
-    }
+module _ (chip : Chip) (plan : Plan) (old : List ℕ) (named : chipOf (plan .chip) ≡ Known chip) (judged : first (planChecks plan) ≡ 0) where
+  room : first (writeChecks plan old) ≡ first (roomChecks (recordOf chip plan) old)
+  room = first-passed (planChecks plan) (roomChecks (encoded plan) old) refl judged ∙ (rw named)
+
+  pub write-short : length old < length (recordOf chip plan) → Writes plan old (counted.Refused Refusal.OutputTooShort) old
+  write-short h =
+      let f : 9 ≡ first (writeChecks plan old) = sym (room ∙ (rw (lt-ltb (length old) (length (recordOf chip plan)) h))) in
+      record {
+        answer = told-refused Refusal.OutputTooShort (writeChecks plan old) _ f;
+        bytes = when-refused Refusal.OutputTooShort _ old f;
+      }
+
+  pub write-whole : (n : ℕ) (new : List ℕ) → n ≡ length (recordOf chip plan) → n ≤ length old → new ≡ paste old 0 (recordOf chip plan) n
+      → Writes plan old (counted.Of n) new
+  write-whole n new e h copied =
+      let f : first (writeChecks plan old) ≡ 0 = room ∙ (rw (le-ltb (length old) (length (recordOf chip plan)) (omega arith))) in
+      let whole : take n (recordOf chip plan) ≡ encoded plan = take-all n (recordOf chip plan) (omega arith) ∙ (rw named) in
+      let long : n ≡ length (encoded plan) = rw named e in
+      let rest : 0 + n ≡ length (encoded plan) = omega arith in
+      record {
+        answer = told-passed (writeChecks plan old) n f ∙ ap (told (writeChecks plan old)) long;
+        bytes = copied ∙ (λ i. whole i ++ drop (rest i) old) ∙ when-passed _ old f;
+      }

@@ -1,4 +1,5 @@
-pub mod Copied
+pub mod Owned
+pub mod Places
 pub mod Chips
 pub mod Answers
 pub mod Unique

@@ -3,78 +3,51 @@
 use Prim.Native.Nat.{ℕ, suc, _+_, _≤_, _<_}
 use native.Mathlib.Omega.{arith}
 use mathlib.Core.Path.{_≡_, refl, sym, ap, _∙_}
-use mathlib.Core.Bool.{true, not, and-eq-true-iff}
+use mathlib.Core.Bool.{and-eq-true-iff}
 use mathlib.Core.List.{List, [], _∷_, _++_}
 use borrow.Author.Tests.{ltb-false, le-ltb, eqb-true, not-false}
-use lib.Dec.{eqb, ltb, lit<}
+use lib.Dec.{eqb}
 use lib.ListN.{length, getD, take, drop, length-append, length-drop}
 use lib.Seq.{getD-drop, length-take-le}
 use Rattle.refusal.specs.Checks.{Check, first, told}
-use Rattle.refusal.proofs.Passed.{passed, first-passed, first-front, when-passed, told-passed}
+use Rattle.refusal.proofs.Passed.{all-passed, first-passed, first-front, when-passed, told-passed}
 use Rattle.refusal.specs.declared.Count.{Count}
 use Rattle.refusal.specs.declared.Count.the-variants as counted
 use Rattle.refusal.specs.Answers.{tellsCount}
 use Rattle.refusal.proofs.Answers.{tellsCount-injective}
 use Rattle.cards.specs.declared.Chip.{Chip}
 use Rattle.cards.specs.declared.Named.the-variants.{Known}
-use Rattle.cards.specs.Cards.{chipOf, whenKnown, unknown, noTable, hasTable}
+use Rattle.cards.specs.Cards.{chipOf, whenKnown}
 use Rattle.cards.proofs.Numbers.{chip-number, chip-known}
 use Rattle.curves.specs.declared.Plan.{Plan}
-use Rattle.curves.specs.Planned.{planned}
-use Rattle.plans.specs.Plans.{decoded, temperaturesOut, speedsOut, planChecks}
+use Rattle.plans.specs.Plans.{decoded, planChecks}
 use Rattle.plans.proofs.Laws.{accepted, accepted-known}
 use Rattle.records.specs.declared.Found.{Found}
-use Rattle.records.specs.Records.{body, bodyLength, recordLength, recordOf, encoded, chipIn, tableIn, bodyIn, noPlan, planIn, headerCutShort, wrongMark, bodyCutShort, recordChecks, roomChecks, writeChecks, bodyChecks, ownOf, own, Sized, Reads, Writes}
+use Rattle.records.specs.Records.{bodyLength, recordLength, recordOf, encoded, chipIn, tableIn, bodyIn, noPlan, planIn, recordChecks, roomChecks, writeChecks, ownOf, own, Sized, Reads, Writes}
 use Rattle.records.proofs.Chips.{decoded-chip, decoded-table}
-use Rattle.records.proofs.Answers.{body-judged}
-use Rattle.records.proofs.Encoding.{body-of-plan, record-of-plan, decode-encode, own-judged, encode-decode}
+use Rattle.records.proofs.Answers.{Complete, complete-judged}
+use Rattle.records.proofs.Encoding.{record-of-plan, decode-encode, own-judged, encode-decode}
 
--- a record that is accepted
-pub record Whole (bytes : List ℕ) (chip : Chip) : Type 0 where
-  pub long : 4 ≤ length bytes
-  pub first-mark : getD bytes 0 0 ≡ 0x43
-  pub second-mark : getD bytes 1 0 ≡ 0x50
-  pub named : chipOf (chipIn bytes) ≡ Known chip
-  pub has : hasTable chip (tableIn bytes) ≡ true
-  pub body-long : bodyLength chip ≤ length (bodyIn bytes)
-  pub accepted : first (planChecks (decoded chip (tableIn bytes) (bodyIn bytes))) ≡ 0
-
+-- a record that is accepted is complete
 pub record Some-chip (bytes : List ℕ) : Type 0 where
   pub chip : Chip
-  pub whole : Whole bytes chip
+  pub complete : Complete bytes chip
 
 pub whole-record : (bytes : List ℕ) → first (recordChecks bytes) ≡ 0 → Some-chip bytes
 whole-record bytes h =
-    let c7 : List Check = (speedsOut (planIn bytes), 7) ∷ [] in
-    let c6 : List Check = (temperaturesOut (planIn bytes), 6) ∷ c7 in
-    let c5 : List Check = (bodyCutShort bytes, 5) ∷ c6 in
-    let c4 : List Check = (noTable (chipIn bytes) (tableIn bytes), 4) ∷ c5 in
-    let c3 : List Check = (unknown (chipIn bytes), 3) ∷ c4 in
-    let c2 : List Check = (wrongMark bytes, 2) ∷ c3 in
-    let one = passed (headerCutShort bytes) 1 c2 (lit< tt) h in
-    let two = passed (wrongMark bytes) 2 c3 (lit< tt) (one .1) in
-    let three = passed (unknown (chipIn bytes)) 3 c4 (lit< tt) (two .1) in
-    let mark = and-eq-true-iff (eqb (getD bytes 0 0) 0x43) (eqb (getD bytes 1 0) 0x50) .0 (not-false _ (two .0)) in
-    let known = chip-known (chipIn bytes) (three .0) in
+    let p = all-passed (recordChecks bytes) refl h in
+    let known = chip-known (chipIn bytes) (p .1 .1 .0) in
     let chip = known .chip in
-    let rest : first (bodyChecks chip (tableIn bytes) (bodyIn bytes)) ≡ 0 = rw (known .named) at (three .1) in
-    let b7 : List Check = (speedsOut (decoded chip (tableIn bytes) (bodyIn bytes)), 7) ∷ [] in
-    let b6 : List Check = (temperaturesOut (decoded chip (tableIn bytes) (bodyIn bytes)), 6) ∷ b7 in
-    let b5 : List Check = (ltb (length (bodyIn bytes)) (bodyLength chip), 5) ∷ b6 in
-    let four = passed (not (hasTable chip (tableIn bytes))) 4 b5 (lit< tt) rest in
-    let five = passed (ltb (length (bodyIn bytes)) (bodyLength chip)) 5 b6 (lit< tt) (four .1) in
-    let has : hasTable chip (tableIn bytes) ≡ true = not-false _ (four .0) in
-    let body-long : bodyLength chip ≤ length (bodyIn bytes) = ltb-false (length (bodyIn bytes)) (bodyLength chip) (five .0) in
+    let body-long = ltb-false (length (bodyIn bytes)) (bodyLength chip) (rw (known .named) at (p .1 .1 .1 .1 .0)) in
+    let long = ltb-false (length bytes) 4 (p .0) in
     record {
       chip = chip;
-      whole = record {
-        long = ltb-false (length bytes) 4 (one .0);
-        first-mark = eqb-true (getD bytes 0 0) 0x43 (mark .0);
-        second-mark = eqb-true (getD bytes 1 0) 0x50 (mark .1);
+      complete = record {
+        long = long;
+        marked = p .1 .0;
         named = known .named;
-        has = has;
-        body-long = body-long;
-        accepted = body-judged chip (tableIn bytes) (bodyIn bytes) has body-long ∙ rest;
+        has = not-false _ (rw (known .named) at (p .1 .1 .1 .0));
+        whole = omega (arith, length-drop 4 bytes);
       };
     }
 
@@ -96,21 +69,22 @@ header-split (a ∷ (b ∷ (c ∷ (d ∷ l)))) m h =
     let e : suc (suc (suc (suc m))) ≡ 4 + m = omega arith in
     ap (λ (k : ℕ). take k (a ∷ (b ∷ (c ∷ (d ∷ l))))) e
 
--- the record of the plan in an accepted record is the front of its bytes
-whole-encoded : (bytes : List ℕ) (chip : Chip) → Whole bytes chip → ((k : ℕ) → getD bytes k 0 < 256)
+-- the record of the plan in a complete record is the front of its bytes
+complete-encoded : (bytes : List ℕ) (chip : Chip) → Complete bytes chip → ((k : ℕ) → getD bytes k 0 < 256)
     → encoded (decoded chip (tableIn bytes) (bodyIn bytes)) ≡ take (recordLength chip) bytes
-whole-encoded bytes chip W small =
+complete-encoded bytes chip C small =
     let D = decoded chip (tableIn bytes) (bodyIn bytes) in
-    let number = chip-number (D .chip) chip (decoded-chip chip (tableIn bytes) (bodyIn bytes)) ∙ sym (chip-number (chipIn bytes) chip (W .named)) in
+    let marks = and-eq-true-iff (eqb (getD bytes 0 0) 0x43) (eqb (getD bytes 1 0) 0x50) .0 (not-false _ (C .marked)) in
+    let number = chip-number (D .chip) chip (decoded-chip chip (tableIn bytes) (bodyIn bytes)) ∙ sym (chip-number (chipIn bytes) chip (C .named)) in
     let bytes-small : (k : ℕ) → getD (bodyIn bytes) k 0 < 256 = λ k. rw (getD-drop 4 bytes k 0) (small (4 + k)) in
     let whole : encoded D ≡ recordOf chip D = rw (decoded-chip chip (tableIn bytes) (bodyIn bytes)) in
     whole
-    ∙ (λ i. sym (W .first-mark) i
-    ∷ (sym (W .second-mark) i
+    ∙ (λ i. sym (eqb-true (getD bytes 0 0) 0x43 (marks .0)) i
+    ∷ (sym (eqb-true (getD bytes 1 0) 0x50 (marks .1)) i
     ∷ (number i
     ∷ (decoded-table chip (tableIn bytes) (bodyIn bytes) i
-    ∷ encode-decode chip (tableIn bytes) (bodyIn bytes) bytes-small (W .body-long) i))))
-    ∙ header-split bytes (bodyLength chip) (W .long)
+    ∷ encode-decode chip (tableIn bytes) (bodyIn bytes) bytes-small (omega (arith, C .whole, length-drop 4 bytes)) i))))
+    ∙ header-split bytes (bodyLength chip) (C .long)
 
 -- what an accepted read says: whose record it is, its length, and the record of the plan
 pub record Accepts (bytes : List ℕ) (n : ℕ) (plan : Plan) : Type 0 where
@@ -118,23 +92,21 @@ pub record Accepts (bytes : List ℕ) (n : ℕ) (plan : Plan) : Type 0 where
   pub judged : first (planChecks plan) ≡ 0
   pub record-of : encoded plan ≡ take n bytes
 
-whole-accepts : (bytes : List ℕ) (n : ℕ) (plan : Plan) (chip : Chip) → Whole bytes chip → ((k : ℕ) → getD bytes k 0 < 256)
-    → n ≡ whenKnown (chipOf (chipIn bytes)) recordLength 0 → plan ≡ planIn bytes → Accepts bytes n plan
-whole-accepts bytes n plan chip W small length-told plan-told =
-    let length-is : n ≡ recordLength chip = rw (W .named) at length-told in
-    let plan-is : plan ≡ decoded chip (tableIn bytes) (bodyIn bytes) = rw (W .named) at plan-told in
-    record {
-      within = omega (arith, length-is, W .long, W .body-long, length-drop 4 bytes);
-      judged = ap (λ (p : Plan). first (planChecks p)) plan-is ∙ W .accepted;
-      record-of = ap encoded plan-is ∙ whole-encoded bytes chip W small ∙ ap (λ (k : ℕ). take k bytes) (sym length-is);
-    }
-
 pub read-accepts : (bytes : List ℕ) (n : ℕ) (q : Found) → ((k : ℕ) → getD bytes k 0 < 256) → Reads bytes q → q .answer ≡ counted.Of n
     → Accepts bytes n (q .plan)
 read-accepts bytes n q small R e =
     let t = told-bytes (recordChecks bytes) (whenKnown (chipOf (chipIn bytes)) recordLength 0) n (q .answer) e (R .answer) in
     let some = whole-record bytes (t .0) in
-    whole-accepts bytes n (q .plan) (some .chip) (some .whole) small (t .1) (R .plan ∙ sym (when-passed (planIn bytes) noPlan (t .0)))
+    let chip = some .chip in
+    let C = some .complete in
+    let length-is : n ≡ recordLength chip = rw (C .named) at (t .1) in
+    let plan-is : q .plan ≡ decoded chip (tableIn bytes) (bodyIn bytes) =
+    rw (C .named) at (R .plan ∙ sym (when-passed (planIn bytes) noPlan (t .0))) in
+    record {
+      within = omega (arith, length-is, C .whole);
+      judged = ap (λ (p : Plan). first (planChecks p)) plan-is ∙ complete-judged bytes chip C ∙ t .0;
+      record-of = ap encoded plan-is ∙ complete-encoded bytes chip C small ∙ ap (λ (k : ℕ). take k bytes) (sym length-is);
+    }
 
 -- A plan has one encoding: bytes that are read as the same plan are the same, as far as they are used
 pub one-encoding : (bytes other : List ℕ) (n m : ℕ) (q s : Found)
@@ -169,16 +141,12 @@ record-read : (chip : Chip) (plan : Plan) (rest : List ℕ) (q : Found) → Size
     → (q .answer ≡ counted.Of (length (recordOf chip plan))) × (q .plan ≡ ownOf chip plan)
 record-read chip plan rest q S e accepts R =
     let bytes = recordOf chip plan ++ rest in
-    let behind = body (planned chip plan) ++ rest in
-    let whole : bodyLength chip ≤ length behind = omega (arith, body-of-plan chip plan S, length-append (body (planned chip plan)) rest) in
+    let whole : recordLength chip ≤ length bytes = omega (arith, record-of-plan chip plan S, length-append (recordOf chip plan) rest) in
+    let C : Complete bytes chip =
+    record { long = omega arith; marked = refl; named = e; has = accepted chip plan e accepts .has; whole = whole } in
     let back = decode-encode chip plan rest S e in
-    let checks : first (recordChecks bytes) ≡ first (bodyChecks chip (plan .table) behind) = rw (le-ltb (length bytes) 4 (omega arith), e) in
     let none : first (recordChecks bytes) ≡ 0 =
-    checks
-    ∙ sym (body-judged chip (plan .table) behind (accepted chip plan e accepts .has) whole)
-    ∙ ap (λ (p : Plan). first (planChecks p)) back
-    ∙ own-judged chip plan e
-    ∙ accepts in
+    sym (complete-judged bytes chip C) ∙ ap (λ (p : Plan). first (planChecks p)) back ∙ own-judged chip plan e ∙ accepts in
     let used-bytes : whenKnown (chipOf (plan .chip)) recordLength 0 ≡ length (recordOf chip plan) = rw e (sym (record-of-plan chip plan S)) in
     let plan-in : planIn bytes ≡ ownOf chip plan = rw e back in (
       tellsCount-injective (q .answer) (counted.Of (length (recordOf chip plan)))

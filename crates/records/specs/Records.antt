@@ -13,7 +13,7 @@ use Rattle.refusal.specs.Answers.{tellsCount}
 use Rattle.refusal.specs.Checks.{Check, first, told, left}
 use Rattle.cards.specs.declared.Chip.{Chip}
 use Rattle.cards.specs.declared.Chip.the-variants.{Nct7802y, F75373s, Nct80}
-use Rattle.cards.specs.Cards.{chipOf, whenKnown, unknown, hasTable, noTable}
+use Rattle.cards.specs.Cards.{chipOf, whenKnown, unknown, noTable}
 use Rattle.curves.specs.declared.Plan.{Plan}
 use Rattle.curves.specs.Planned.{Curve, planned}
 use Rattle.plans.specs.Plans.{zeros, decoded, temperaturesOut, speedsOut, planChecks}
@@ -161,22 +161,3 @@ pub record Sized (plan : Plan) : Type 0 where
 pub record Refuses (refusal : Refusal) (r : Found) : Type 0 where
   pub answer : r .answer ≡ counted.Refused refusal
   pub plan : r .plan ≡ noPlan
-
--- the checks of a record behind those of its header
-abbrev pub bodyChecks : Chip → ℕ → List ℕ → List Check
-bodyChecks chip table rest =
-    (not (hasTable chip table), 4)
-    ∷ (ltb (length rest) (bodyLength chip), 5)
-    ∷ (temperaturesOut (decoded chip table rest), 6)
-    ∷ (speedsOut (decoded chip table rest), 7)
-    ∷ []
-
--- a record behind its header
-pub record ReadsBody (chip : Chip) (table : ℕ) (rest : List ℕ) (r : Found) : Type 0 where
-  pub answer : tellsCount (r .answer) ≡ told (bodyChecks chip table rest) (recordLength chip)
-  pub plan : r .plan ≡ cond (eqb (first (bodyChecks chip table rest)) 0) (decoded chip table rest) noPlan
-
--- a result put to the front of a buffer
-pub record Puts (result old : List ℕ) (r : Count) (new : List ℕ) : Type 0 where
-  pub answer : tellsCount r ≡ told (roomChecks result old) (length result)
-  pub bytes : new ≡ left (roomChecks result old) (result ++ drop (length result) old) old

@@ -1,87 +1,59 @@
 // The bytes of a record: the mark, chip, table, then the body in register order.
+use cards::Chip;
 use curves::Plan;
+ghost use Prim.Native.Nat.{_<_};
 ghost use mathlib.Core.Path.{_≡_};
-ghost use Prim.Native.Nat.{_/_, _%_};
+ghost use lib.ListN.{getD};
 ghost use Rattle.cards.specs.declared.Chip.the-variants.{Nct7802y, F75373s};
-ghost use Rattle.curves.specs.Curves.{halves};
-ghost use Rattle.records.specs.Records.{recordOf};
+ghost use Rattle.curves.specs.Planned.{planned};
+ghost use Rattle.records.specs.Records.{body, recordLength, recordOf};
 
-pub(crate) fn nct7802y(plan: Plan) -> [u8; 13]
-    ensures { λ r. ⌜ r ≡ recordOf Nct7802y plan ⌝ }
+// T1 to T4, critical, FL1 to FL4.
+fn nct7802y(plan: Plan, k: usize) -> u8
+    requires { ⌜ k < 9 ⌝ }
+    ensures { λ r. ⌜ r ≡ getD (body (planned Nct7802y plan)) k 0 ⌝ }
 {
-    let temperatures = plan.temperatures;
+    if k == 4 {
+        return plan.critical;
+    }
+    if k < 4 {
+        let temperatures = plan.temperatures;
+        return temperatures[k];
+    }
     let duties = plan.duties;
-    [
-        0x43,
-        0x50,
-        plan.chip,
-        plan.table,
-        temperatures[0],
-        temperatures[1],
-        temperatures[2],
-        temperatures[3],
-        plan.critical,
-        duties[0],
-        duties[1],
-        duties[2],
-        duties[3],
-    ]
+    duties[k - 5]
 }
 
-fn high(count: u16) -> u8
-    ensures { λ r. ⌜ r ≡ count / 256 ⌝ }
+// B1 to B4, C1 to C5, "high byte first".
+fn f75373s(plan: Plan, k: usize) -> u8
+    requires { ⌜ k < 14 ⌝ }
+    ensures { λ r. ⌜ r ≡ getD (body (planned F75373s plan)) k 0 ⌝ }
 {
-    (count / 256) as u8
-}
-
-fn low(count: u16) -> u8
-    ensures { λ r. ⌜ r ≡ count % 256 ⌝ }
-{
+    if k < 4 {
+        let bounds = plan.bounds;
+        return bounds[k];
+    }
+    let counts = plan.counts;
+    let count = counts[(k - 4) / 2];
+    if k % 2 == 0 {
+        return (count / 256) as u8;
+    }
     (count % 256) as u8
 }
 
-// "high byte first"
-fn halves(counts: [u16; 5]) -> [u8; 10]
-    ensures { λ r. ⌜ r ≡ halves counts ⌝ }
+// The byte at a place of a chip's record.
+pub(crate) fn byte_of(chip: Chip, plan: Plan, at: usize) -> u8
+    requires { ⌜ at < recordLength chip ⌝ }
+    ensures { λ r. ⌜ r ≡ getD (recordOf chip plan) at 0 ⌝ }
 {
-    [
-        high(counts[0]),
-        low(counts[0]),
-        high(counts[1]),
-        low(counts[1]),
-        high(counts[2]),
-        low(counts[2]),
-        high(counts[3]),
-        low(counts[3]),
-        high(counts[4]),
-        low(counts[4]),
-    ]
-}
-
-pub(crate) fn f75373s(plan: Plan) -> [u8; 18]
-    ensures { λ r. ⌜ r ≡ recordOf F75373s plan ⌝ }
-{
-    let bounds = plan.bounds;
-    let counts = plan.counts;
-    let speeds = halves(counts);
-    [
-        0x43,
-        0x50,
-        plan.chip,
-        plan.table,
-        bounds[0],
-        bounds[1],
-        bounds[2],
-        bounds[3],
-        speeds[0],
-        speeds[1],
-        speeds[2],
-        speeds[3],
-        speeds[4],
-        speeds[5],
-        speeds[6],
-        speeds[7],
-        speeds[8],
-        speeds[9],
-    ]
+    let header = [0x43, 0x50, plan.chip, plan.table];
+    if at < 4 {
+        return header[at];
+    }
+    let k = at - 4;
+    match chip {
+        Chip::Nct7802y => nct7802y(plan, k),
+        Chip::F75373s => f75373s(plan, k),
+        Chip::Nct80 => 0,
+    }
 }

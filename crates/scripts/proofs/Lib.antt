@@ -6,6 +6,5 @@ pub mod Turns
 pub mod Prepared
 pub mod Lengths
 pub mod Answers
-pub mod Owned
 pub mod Buffers
 pub mod Unique

@@ -6,7 +6,7 @@ use Rattle.refusal.specs.declared.Count.{Count}
 use Rattle.plans.specs.Plans.{planChecks}
 use Rattle.scripts.specs.Scripts.{scriptFor}
 use Rattle.scripts.proofs.Lengths.{script-short}
-use Rattle.scripts.proofs.Owned.{plan-sized}
+use Rattle.records.proofs.Owned.{plan-sized}
 use Rattle.scripts.proofs.Buffers.{refused-by-plan, accepted-plan, count, first-pairs}
 use Rattle.plays.specs.Plays.{Plays}
 use Rattle.plays.specs.NeverSlower.{Safely}

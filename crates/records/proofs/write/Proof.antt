@@ -1,61 +1,158 @@
--- `records::write` meets its contract: each answer knows which chip the number names and how the plan was judged.
+-- `records::write` meets its contract: each answer knows how the tests before it ended, and the places that the loop passed hold the record.
 -- Assumes nothing.
+use Prim.Native.Nat.{ℕ, _-_, _≤_}
+use native.Mathlib.Nat.{zero-add}
+use native.Mathlib.Numerals.{add-one}
+use native.Mathlib.Omega.{arith}
+use mathlib.Core.Path.{_≡_, refl, sym, ap, _∙_}
+use mathlib.Core.List.{List}
+use borrow.Author.Needs.{needs}
+use lib.ListN.{length, set}
+use lib.Seq.{paste, paste-suc, length-paste}
 use Rattle.refusal.specs.declared.Refusal.{Refusal}
 use Rattle.refusal.specs.Answers.{tells}
-use mathlib.Core.Path.{sym, ap, _∙_}
-use Rattle.records.proofs.Answers.{write-refused, write-accepted}
-use borrow.Author.Needs.{needs}
+use Rattle.refusal.specs.Checks.{first}
+use Rattle.cards.specs.declared.Chip.{Chip}
+use Rattle.cards.specs.declared.Named.the-variants.{Known}
+use Rattle.cards.specs.Cards.{chipOf}
+use Rattle.curves.specs.declared.Plan.{Plan}
+use Rattle.plans.specs.Plans.{planChecks}
+use Rattle.records.specs.Records.{recordOf}
+use Rattle.records.proofs.Owned.{plan-sized}
+use Rattle.records.proofs.Encoding.{record-of-plan}
+use Rattle.records.proofs.Answers.{write-refused, write-short, write-whole}
 use Rattle.records.proofs.write.Statement.{statement}
 use Rattle.records.proofs.write.Tie as tie
 
-chip-of-requires : tie.Need-chip-of-requires
-chip-of-requires c κs = search needs
+abbrev Inv-loop : tie.InvT-loop
+Inv-loop plan out₀ chip length at₀ out at = (at ≤ length) × (out ≡ paste out₀ 0 (recordOf chip plan) at)
 
-enum-told : tie.Need-enum-told
-enum-told c = search needs
+abbrev μ-loop : tie.MeasureT-loop
+μ-loop plan out₀ chip length at₀ out at = length - at
 
-enum-known-chip : tie.Need-enum-known-chip
-enum-known-chip c = search needs
+-- a plan that is accepted
+abbrev Judged : Type 0
+Judged = tie.After-record-length Inv-loop μ-loop
 
-judge-requires : tie.Need-judge-requires
-judge-requires c κs = search needs
+abbrev plan : Judged → Plan
+plan c = c .before .before .before .before .before .before .before .before .before .args .plan
 
-enum-known-refusal : tie.Need-enum-known-refusal
-enum-known-refusal c = search needs
+abbrev old : Judged → List ℕ
+old c = c .before .before .before .before .before .before .before .before .before .args .out .now
 
-returns : tie.Need-returns
-returns c = write-refused _ _ _ (ap tells (sym (c .before .refusal .given .1)) ∙ c .before .before .before .judge .ensures .answer)
+abbrev chip : Judged → Chip
+chip c = c .before .before .before .before .before .chip .given .0 .0
 
-enum-told-2 : tie.Need-enum-told-2
-enum-told-2 c = search needs
+named : (c : Judged) → chipOf (plan c .chip) ≡ Known (chip c)
+named c =
+    let k = c .before .before .before .before .before in
+    sym (k .before .before .chip-of .ensures .answer) ∙ k .chip .given .1
 
-write-known-requires : tie.Need-write-known-requires
-write-known-requires c κs = search needs
+judged : (c : Judged) → first (planChecks (plan c)) ≡ 0
+judged c = sym (c .before .before .before .judge .ensures .answer) ∙ ap tells (c .before .enum-told2 .given .1)
 
-returns-2 : tie.Need-returns-2
-returns-2 c = write-refused _ _ Refusal.NoSuchChip (rw (sym (c .before .before .chip-of .ensures .answer) ∙ c .enum-told .given .1))
+long : (c : Judged) → c .record-length .result ≡ length (recordOf (chip c) (plan c))
+long c =
+    let start = c .before .before .before .before .before .before .before .before .before in
+    c .record-length .ensures ∙ sym (record-of-plan (chip c) (plan c) (plan-sized (plan c) _ (start .good .0)))
 
-same-length : tie.Need-same-length
-same-length c = search needs
+-- the buffer keeps its length
+kept : (c : tie.At-loop Inv-loop μ-loop) → length (c .loop .out) ≡ length (old (c .before .before))
+kept c =
+    let j = c .before .before in
+    ap length (c .loop .inv .1)
+    ∙ length-paste (old j) 0 (recordOf (chip j) (plan j)) (c .loop .at) (omega (arith, c .before .if1 .left)) (omega (arith, long j))
 
-returns-3 : tie.Need-returns-3
+chip-of-requires : tie.Need-chip-of-requires Inv-loop μ-loop
+chip-of-requires c κs = tt
+
+enum-known-chip : tie.Need-enum-known-chip Inv-loop μ-loop
+enum-known-chip c = c .match .keys1
+
+enum-told : tie.Need-enum-told Inv-loop μ-loop
+enum-told c = c .match .keys2
+
+returns : tie.Need-returns Inv-loop μ-loop
+returns c = write-refused _ _ Refusal.NoSuchChip (rw (sym (c .before .before .chip-of .ensures .answer) ∙ c .enum-told .given .1))
+
+judge-requires : tie.Need-judge-requires Inv-loop μ-loop
+judge-requires c κs = tt
+
+enum-known-refusal : tie.Need-enum-known-refusal Inv-loop μ-loop
+enum-known-refusal c = c .match2 .keys1
+
+returns-2 : tie.Need-returns-2 Inv-loop μ-loop
+returns-2 c = write-refused _ _ _ (ap tells (sym (c .before .refusal .given .1)) ∙ c .before .before .before .judge .ensures .answer)
+
+enum-told-2 : tie.Need-enum-told-2 Inv-loop μ-loop
+enum-told-2 c = c .match2 .keys2
+
+record-length-requires : tie.Need-record-length-requires Inv-loop μ-loop
+record-length-requires c κs = tt
+
+returns-3 : tie.Need-returns-3 Inv-loop μ-loop
 returns-3 c =
-    let k = c .before .before .before .before .before .before in
-    write-accepted _ _ _ _ _ (sym (k .before .before .before .before .chip-of .ensures .answer) ∙ k .before .before .chip .given .1)
-    (sym (k .judge .ensures .answer) ∙ ap tells (c .before .before .before .before .enum-told2 .given .1)) (c .before .before .write-known .ensures)
+    let j = c .before in
+    write-short (chip j) (plan j) _ (named j) (judged j) (omega (arith, c .if1 .taken, long j))
+
+loop-holds : tie.Need-loop-holds Inv-loop μ-loop
+loop-holds c = (omega arith, refl)
+
+byte-of-requires : tie.Need-byte-of-requires Inv-loop μ-loop
+byte-of-requires c κs = omega (arith, c .before .before .before .record-length .ensures)
+
+slice-write-out : tie.Need-slice-write-out Inv-loop μ-loop
+slice-write-out c = omega (arith, kept (c .before .before))
+
+add-at : tie.Need-add-at Inv-loop μ-loop
+add-at c = search needs
+
+loop-less : tie.Need-loop-less Inv-loop μ-loop
+loop-less c = search needs
+
+loop-again : tie.Need-loop-again Inv-loop μ-loop
+loop-again c =
+    let l = c .before .before in
+    let j = l .before .before in
+    let record-at = recordOf (chip j) (plan j) in (
+      omega arith,
+      (λ i. set (l .loop .inv .1 i) (sym (zero-add (l .loop .at)) i) (c .byte-of .ensures i))
+          ∙ paste-suc (old j) 0 record-at (l .loop .at) 0 (omega (arith, l .before .if1 .left)) (omega (arith, long j))
+          ∙ ap (paste (old j) 0 record-at) (sym (add-one (l .loop .at))),
+    )
+
+same-length : tie.Need-same-length Inv-loop μ-loop
+same-length c = kept (c .before)
+
+returns-4 : tie.Need-returns-4 Inv-loop μ-loop
+returns-4 c =
+    let l = c .before in
+    let j = l .before .before in
+    let all : l .loop .at ≡ j .record-length .result = omega (arith, l .loop .inv .0, c .loop-test .left) in
+    write-whole (chip j) (plan j) _ (named j) (judged j) _ _ (long j) (l .before .if1 .left)
+    (l .loop .inv .1 ∙ ap (paste (old j) 0 (recordOf (chip j) (plan j))) all)
 
 pub write-spec : {M : Type 1} → statement M
 write-spec =
     tie.close
     (tie.spec
+    Inv-loop
+    μ-loop
     chip-of-requires
-    enum-told
     enum-known-chip
+    enum-told
+    returns
     judge-requires
     enum-known-refusal
-    returns
-    enum-told-2
-    write-known-requires
     returns-2
+    enum-told-2
+    record-length-requires
+    returns-3
+    loop-holds
+    byte-of-requires
+    slice-write-out
+    add-at
+    loop-less
+    loop-again
     same-length
-    returns-3)
+    returns-4)

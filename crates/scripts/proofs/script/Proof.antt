@@ -4,7 +4,7 @@ use Rattle.refusal.specs.declared.Count.{Count}
 use Rattle.refusal.specs.Answers.{tellsCount}
 use Rattle.scripts.proofs.Prepared.{in-image, judged, prepared}
 use Rattle.scripts.proofs.Answers.{script-refused, script-put}
-use Rattle.scripts.proofs.Owned.{plan-sized}
+use Rattle.records.proofs.Owned.{plan-sized}
 use mathlib.Core.Path.{refl, sym, ap, _∙_}
 use borrow.Author.Needs.{needs}
 use Rattle.scripts.proofs.script.Statement.{statement}

@@ -1,64 +1,35 @@
--- `records::layout::nct7802y` meets its contract: the arrays of a plan are what stands at their places.
+-- `layout::nct7802y` meets its contract: the tests say in which part of the body the place lies.
 -- Assumes nothing.
-use Rattle.records.specs.Records.{header}
-use lib.ListN.{length, length-map}
-use mathlib.Core.List.{List, [], _∷_, _++_}
-use mathlib.Core.Path.{_≡_, sym, ap₂, _∙_}
-use Prim.Native.Nat.{ℕ}
-use Rattle.curves.proofs.Registers.{spelled}
+use native.Mathlib.Omega.{arith}
 use borrow.Author.Needs.{needs}
+use Rattle.records.specs.Records.{Sized}
+use Rattle.records.proofs.Owned.{plan-sized}
+use Rattle.records.proofs.Places.{temperature-at, critical-at, duty-at}
 use Rattle.records.proofs.layout.nct7802y.Statement.{statement}
 use Rattle.records.proofs.layout.nct7802y.Tie as tie
 
--- an array that a plan holds has its length
-temperatures-four : (c : tie.Start) → length (c .args .plan .temperatures) ≡ 4
-temperatures-four c = sym (length-map (c .args .plan .temperatures) (λ v. v)) ∙ c .good .0 .1 .1 .1 .1 .0 .1 .0 .1
-
-duties-four : (c : tie.Start) → length (c .args .plan .duties) ≡ 4
-duties-four c = sym (length-map (c .args .plan .duties) (λ v. v)) ∙ c .good .0 .1 .1 .1 .1 .1 .1 .0 .1 .0 .1
-
-array-read-t6 : tie.Need-array-read-t6
-array-read-t6 c = search needs
-
-array-read-t9 : tie.Need-array-read-t9
-array-read-t9 c = search needs
-
-array-read-t12 : tie.Need-array-read-t12
-array-read-t12 c = search needs
-
-array-read-t15 : tie.Need-array-read-t15
-array-read-t15 c = search needs
-
-array-read-t18 : tie.Need-array-read-t18
-array-read-t18 c = search needs
-
-array-read-t21 : tie.Need-array-read-t21
-array-read-t21 c = search needs
-
-array-read-t24 : tie.Need-array-read-t24
-array-read-t24 c = search needs
-
-array-read-t27 : tie.Need-array-read-t27
-array-read-t27 c = search needs
+sized : (c : tie.Start) → Sized (c .args .plan)
+sized c = plan-sized (c .args .plan) _ (c .good .0)
 
 returns : tie.Need-returns
-returns c =
-    let s = c .before .before in
-    let p = s .args .plan in
-    ap₂ (λ (ts ds : List ℕ). header (p .chip) (p .table) ++ ((ts ++ (p .critical ∷ [])) ++ ds))
-    (spelled (p .temperatures) 4 (temperatures-four s))
-    (spelled (p .duties) 4 (duties-four s))
+returns c = let s = c .before in critical-at (s .args .plan) (sized s) (s .args .k) (c .if1 .taken)
+
+array-read-result : tie.Need-array-read-result
+array-read-result c = search needs
+
+returns-2 : tie.Need-returns-2
+returns-2 c = let s = c .before .before .before in temperature-at (s .args .plan) (sized s) (s .args .k) (c .before .if2 .taken)
+
+sub-result : tie.Need-sub-result
+sub-result c = search needs
+
+array-read-result-2 : tie.Need-array-read-result-2
+array-read-result-2 c = search needs
+
+returns-3 : tie.Need-returns-3
+returns-3 c = let s = c .before .before .before in duty-at (s .args .plan) (sized s) (s .args .k) (omega arith)
 
 pub nct7802y-spec : {M : Type 1} → statement M
 nct7802y-spec =
     tie.close
-    (tie.spec
-    array-read-t6
-    array-read-t9
-    array-read-t12
-    array-read-t15
-    array-read-t18
-    array-read-t21
-    array-read-t24
-    array-read-t27
-    returns)
+    (tie.spec returns array-read-result returns-2 sub-result array-read-result-2 returns-3)
