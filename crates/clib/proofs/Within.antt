@@ -24,8 +24,8 @@ use Rattle.curves.specs.Curves.{points}
 use Rattle.curves.specs.Orders.{fulls}
 use Rattle.curves.specs.Planned.{planned}
 use Rattle.plans.specs.Plans.{decoded}
-use Rattle.records.specs.Records.{Sized, roomChecks, writeChecks, recordOf, encoded, bodyLength, recordLength, chipIn, Writes}
-use Rattle.records.proofs.Encoding.{record-of-plan, decoded-sized}
+use Rattle.records.specs.Records.{Sized, roomChecks, writeChecks, encoded, recordLength, chipIn, Writes}
+use Rattle.records.proofs.Encoding.{length-short, record-short, decoded-sized}
 use Rattle.scripts.specs.Scripts.{scriptOf, scriptFor, fullOf, scriptChecks, Scripts}
 use Rattle.plays.specs.Plays.{playChecks, Plays}
 use Rattle.translation.specs.Text.{textOf, Translates}
@@ -49,18 +49,8 @@ plan-sized : (chip table : ℕ) (bytes : List ℕ) → Sized (planFrom chip tabl
 unfolding planFrom
 plan-sized chip table bytes = named-sized chip table bytes (chipOf chip)
 
-body-short : (chip : Chip) → bodyLength chip ≤ 14
-body-short Nct7802y = omega arith
-body-short F75373s = omega arith
-body-short Nct80 = omega arith
-
-encoded-short : (named : Named) (plan : Plan) → Sized plan → length (whenKnown named (λ chip. recordOf chip plan) []) ≤ 18
-encoded-short (Known chip) plan S = omega (arith, record-of-plan chip plan S, body-short chip)
-encoded-short Unknown plan S = omega arith
-
 record-within : (chip table : ℕ) (bytes : List ℕ) → length (encoded (planFrom chip table bytes)) ≤ 18
-record-within chip table bytes =
-    encoded-short (chipOf (planFrom chip table bytes .chip)) (planFrom chip table bytes) (plan-sized chip table bytes)
+record-within chip table bytes = record-short (planFrom chip table bytes) (plan-sized chip table bytes)
 
 -- as many writes as registers, at most
 points-short : (registers bytes : List ℕ) → length (points registers bytes) ≤ length registers
@@ -113,7 +103,7 @@ pub used-within : (bytes : List ℕ) → whenKnown (chipOf (chipIn bytes)) recor
 used-within bytes = by-name (chipOf (chipIn bytes))
   where
     by-name : (named : Named) → whenKnown named recordLength 0 < 2 ^ 16
-    by-name (Known chip) = omega (arith, body-short chip)
+    by-name (Known chip) = omega (arith, length-short chip)
     by-name Unknown = omega arith
 
 -- so what a call counts has room above the refusal number

@@ -9,9 +9,10 @@ use lib.ListN.{length, getD, take, length-append}
 use Rattle.refusal.specs.Checks.{first}
 use Rattle.cards.specs.declared.Chip.{Chip}
 use Rattle.cards.specs.declared.Chip.the-variants.{Nct7802y, F75373s, Nct80}
-use Rattle.cards.specs.declared.Named.the-variants.{Known}
+use Rattle.cards.specs.declared.Named.{Named}
+use Rattle.cards.specs.declared.Named.the-variants.{Known, Unknown}
 use Rattle.cards.specs.Rows.{Table, from, positions}
-use Rattle.cards.specs.Cards.{chipOf, hasTable, tableOf, tableFrom, baseOf}
+use Rattle.cards.specs.Cards.{chipOf, whenKnown, hasTable, tableOf, tableFrom, baseOf}
 use Rattle.cards.proofs.Numbers.{chip-number}
 use Rattle.cards.proofs.Tables.{table-at-base}
 use Rattle.curves.specs.declared.Plan.{Plan}
@@ -20,7 +21,7 @@ use Rattle.curves.specs.Planned.{planned, bytesAt}
 use Rattle.plans.specs.Plans.{zeros, decoded, planChecks}
 use Rattle.curves.proofs.StepLaws.{words-halves, halves-words}
 use Rattle.curves.proofs.Registers.{in-a-row, spelled}
-use Rattle.records.specs.Records.{body, bodyLength, recordLength, recordOf, ownOf, Sized}
+use Rattle.records.specs.Records.{body, bodyLength, recordLength, recordOf, encoded, ownOf, Sized}
 
 -- "9 bytes for chip 1, 14 for chip 2": as many as each of the chip's tables has registers
 at-base : (chip : Chip) (base : ℕ) → length (positions (tableFrom chip base)) ≡ bodyLength chip
@@ -54,6 +55,19 @@ body-of-plan Nct80 plan S = refl
 -- "the bytes used, 13 or 18": as many as a plan's record has
 pub record-of-plan : (chip : Chip) (plan : Plan) → Sized plan → length (recordOf chip plan) ≡ recordLength chip
 record-of-plan chip plan S = omega (arith, body-of-plan chip plan S)
+
+-- so none has more than 18
+pub length-short : (chip : Chip) → recordLength chip ≤ 18
+length-short Nct7802y = omega arith
+length-short F75373s = omega arith
+length-short Nct80 = omega arith
+
+pub record-short : (plan : Plan) → Sized plan → length (encoded plan) ≤ 18
+record-short plan S = by-name (chipOf (plan .chip))
+  where
+    by-name : (named : Named) → length (whenKnown named (λ chip. recordOf chip plan) []) ≤ 18
+    by-name (Known chip) = omega (arith, record-of-plan chip plan S, length-short chip)
+    by-name Unknown = omega arith
 
 -- a plan that comes out of a body has its arrays' lengths, however short the body is
 pub decoded-sized : (chip : Chip) (table : ℕ) (rest : List ℕ) → Sized (decoded chip table rest)

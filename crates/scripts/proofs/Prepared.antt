@@ -25,7 +25,7 @@ use Rattle.curves.specs.declared.Plan.{Plan}
 use Rattle.curves.specs.Planned.{Curve, planned}
 use Rattle.plans.specs.Plans.{planChecks}
 use Rattle.records.specs.Records.{Sized, header, body, recordOf, encoded, roomChecks, Writes}
-use Rattle.records.proofs.Encoding.{record-of-plan}
+use Rattle.records.proofs.Encoding.{record-short}
 use Rattle.scripts.specs.declared.making.Layout.{Layout}
 use Rattle.scripts.specs.Scripts.{Pair, fullOf, script, scriptOf, scriptFor}
 use Rattle.scripts.specs.Making.{writesOf, pairAt, pairsOf, InImage, laidOut, layoutOf, LaysTable, Describes}
@@ -141,20 +141,13 @@ in-image {number} {table} {l} lays = rw (lays .answer) (by-name (chipOf number))
     by-name (Known chip) = by-place chip (hasTable chip table) refl
     by-name Unknown = nowhere
 
--- no record is longer than 18 bytes
-record-within : (named : Named) (plan : Plan) → Sized plan → length (whenKnown named (λ chip. recordOf chip plan) []) ≤ 18
-record-within (Known Nct7802y) plan long = omega (arith, record-of-plan Nct7802y plan long)
-record-within (Known F75373s) plan long = omega (arith, record-of-plan F75373s plan long)
-record-within (Known Nct80) plan long = omega (arith, record-of-plan Nct80 plan long)
-record-within Unknown plan long = omega arith
-
 module _ {plan : Plan} {old bytes : List ℕ} {used : Count} (long : Sized plan) (room : length old ≡ 18) (w : Writes plan old used bytes) where
   -- there is room for the record, so only the plan's own checks count
   pub judged : tellsCount used .0 ≡ first (planChecks plan)
   judged =
       ap (λ (t : ℕ × ℕ). t .0) (w .answer)
       ∙ first-alone (planChecks plan) (roomChecks (encoded plan) old) refl
-      (λ e. rw (le-ltb (length old) (length (encoded plan)) (omega (arith, record-within (chipOf (plan .chip)) plan long))))
+      (λ e. rw (le-ltb (length old) (length (encoded plan)) (omega (arith, record-short plan long))))
 
   -- and an accepted plan's script is described
   pub prepared : {l : Layout} → LaysTable (plan .chip) (plan .table) l → first (planChecks plan) ≡ 0 → Describes l bytes (scriptFor plan)
