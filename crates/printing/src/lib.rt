@@ -2,6 +2,8 @@
 use libc::STDOUT_FILENO;
 use refusal::Count;
 use refusal::Refusal;
+ghost use mathlib.Core.Path.{_≡_};
+ghost use Rattle.printing.specs.Pieces.{upperDigit, allFilled};
 
 // What a lent buffer is filled with beforehand, so that a line can say whether a refusal kept it.
 pub const FILL: u8 = 0x5A;
@@ -43,7 +45,9 @@ pub fn signed(n: i16) {
     }
 }
 
-fn digit(d: u8) -> u8 {
+fn digit(d: u8) -> u8
+    ensures { λ r. ⌜ r ≡ upperDigit d ⌝ }
+{
     let low = d % 16;
     if low < 10 { 48 + low } else { 55 + low }
 }
@@ -86,7 +90,9 @@ pub fn counted(label: &[u8], answer: Count) {
     }
 }
 
-fn is_filled(buffer: &[u8]) -> bool {
+fn is_filled(buffer: &[u8]) -> bool
+    ensures { λ r. ⌜ r ≡ allFilled (now (buffer .entry)) ⌝ }
+{
     for k in 0..buffer.len() {
         if buffer[k] != FILL {
             return false;

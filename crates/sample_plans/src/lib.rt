@@ -1,9 +1,13 @@
 // Plans that lines are about, and how a line shows a plan, a temperature and a speed. Only the programs that print figures use it.
 use curves::Plan;
 use plans::Asked;
+ghost use mathlib.Core.Path.{_≡_};
+ghost use Rattle.sample_plans.specs.Samples.{sloped, stepped as Samples·stepped};
 
 // A plan with chip 1's values; another chip number may stand on it.
-pub fn slope(chip: u8, table: u8, temperatures: [u8; 4], critical: u8, duties: [u8; 4]) -> Plan {
+pub fn slope(chip: u8, table: u8, temperatures: [u8; 4], critical: u8, duties: [u8; 4]) -> Plan
+    ensures { λ r. ⌜ r ≡ sloped chip table temperatures critical duties ⌝ }
+{
     Plan {
         chip,
         table,
@@ -16,7 +20,9 @@ pub fn slope(chip: u8, table: u8, temperatures: [u8; 4], critical: u8, duties: [
 }
 
 // A plan of chip 2.
-pub fn steps(table: u8, bounds: [u8; 4], counts: [u16; 5]) -> Plan {
+pub fn steps(table: u8, bounds: [u8; 4], counts: [u16; 5]) -> Plan
+    ensures { λ r. ⌜ r ≡ Samples·stepped table bounds counts ⌝ }
+{
     Plan {
         chip: 2,
         table,
