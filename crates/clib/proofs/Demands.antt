@@ -1,23 +1,114 @@
--- Demand 2 holds: the round trips are those of `readings` and `records`, and an image that is accepted has passed the check of its identity.
+-- Demand 1 holds: each contract says what it answers and what it leaves by its own list of checks. Demand 2 holds: the round trips are those of `readings` and `records`, and an image that is accepted has passed the check of its identity.
 -- Assumes nothing.
-use Prim.Native.Nat.{ℕ}
-use mathlib.Core.Path.{_≡_, refl, sym}
-use mathlib.Core.Bool.{true}
-use mathlib.Core.List.{List}
+use Prim.Native.Nat.{ℕ, _+_, _*_}
+use mathlib.Core.Path.{_≡_, refl, sym, ap, _∙_}
+use mathlib.Core.Bool.{Bool, true, false, cond, not}
+use mathlib.Core.List.{List, [], _∷_}
+use lib.IntN.{ℤ, pos}
 use borrow.Author.Tests.{not-false}
 use Rattle.refusal.specs.declared.Outcome.the-variants.{Accepted}
+use Rattle.refusal.specs.Refusals.{numberOf}
+use Rattle.refusal.specs.Checks.{first, toldOr, told}
 use Rattle.refusal.proofs.Passed.{all-passed}
 use Rattle.cards.specs.declared.Chip.{Chip}
+use Rattle.cards.specs.declared.Named.{Named}
 use Rattle.cards.specs.declared.Named.the-variants.{Known}
-use Rattle.cards.specs.Cards.{chipOf}
+use Rattle.cards.specs.declared.Place.{Place}
+use Rattle.cards.specs.Cards.{chipOf, unknown, hasTable, rowOf, baseOf, tellsNamed, tellsPlace, Names, Places}
+use Rattle.cards.proofs.Told.{names-told, places-told}
 use Rattle.cards.specs.Identity.{confirmed}
+use Rattle.images.specs.Images.{imageChecks}
 use Rattle.identities.specs.Identities.{identityChecks, Confirms}
+use Rattle.readings.specs.Readings.{asWord, voltage}
 use Rattle.readings.proofs.RoundTrip.{steps-come-back, bytes-come-back-cleared}
+use Rattle.watch.specs.declared.Watch.{Watch}
+use Rattle.watch.specs.declared.Sampled.{Sampled}
+use Rattle.watch.specs.Alarm.{fresh, taken, isSample, acknowledged, shown, run, recorded}
+use Rattle.watch.specs.Promises as watch
+use Rattle.curves.specs.Planned.{planned, asks, temperaturesInOrder, speedsInOrder}
+use Rattle.plans.specs.Plans.{decoded}
 use Rattle.records.proofs.RoundTrip.{read-written, written-read}
-use Rattle.clib.specs.Demands.{Demand2}
+use Rattle.clib.specs.Facts.{factsOf}
+use Rattle.clib.specs.Demands.{Answered, Demand1, Demand2}
+use Rattle.clib.proofs.Answered.{told-answered, left-kept, verdict-answered, count-answered, found-answered, never-refused, packed-answered, packed-verdict, packed-count, used-answered}
+
+-- where a number names no chip, and where a chip has no such table
+named-answered : (number : ℕ) (r : Named) → Names number r → Answered ((unknown number, 3) ∷ []) 0 (tellsNamed r)
+named-answered number r p = told-answered 0 number ((unknown number, 3) ∷ []) (names-told p ∙ by-test (unknown number))
+  where
+    by-test : (b : Bool) → cond b (3, 0) (0, number) ≡ told ((b, 3) ∷ []) number
+    by-test true = refl
+    by-test false = refl
+
+placed-answered : (chip : Chip) (number : ℕ) (r : Place) → Places chip number r → Answered ((not (hasTable chip number), 4) ∷ []) 0 (tellsPlace r)
+placed-answered chip number r p =
+    told-answered 0 (baseOf chip number) ((not (hasTable chip number), 4) ∷ []) (places-told p ∙ by-test (hasTable chip number))
+  where
+    by-test : (b : Bool) → cond b (0, baseOf chip number) (4, 0) ≡ told ((not b, 4) ∷ []) (baseOf chip number)
+    by-test true = refl
+    by-test false = refl
+
+-- a refused sample leaves the watch as it was
+sample-answered : (w : Watch) (steps high hysteresis : ℤ) (r : Sampled) → watch.Samples w steps high hysteresis r → Answered (watch.sampleChecks steps) w (watch.tells r)
+sample-answered w steps high hysteresis r p = told-answered w (taken w steps high hysteresis) (watch.sampleChecks steps) (p .answer ∙ by-test (isSample steps))
+  where
+    by-test : (b : Bool) → (first ((not b, 12) ∷ []), cond b (taken w steps high hysteresis) w) ≡ toldOr w ((not b, 12) ∷ []) (taken w steps high hysteresis)
+    by-test true = refl
+    by-test false = refl
 
 accepted-bits : (number : ℕ) (chip : Chip) (image : List ℕ) → chipOf number ≡ Known chip → Confirms number image Accepted → confirmed chip image ≡ true
 accepted-bits number chip image e c = not-false (confirmed chip image) (rw e at (all-passed (identityChecks number image) refl (sym (c .answer)) .1 .1 .0))
+
+pub demand-1 : Demand1
+demand-1 =
+    record {
+      number = λ refusal. record { answer = numberOf refusal; kept = record { answer = refl } };
+      chip-of = named-answered;
+      row-of = λ chip address. record { answer = rowOf chip address; kept = record { answer = refl } };
+      table-at = placed-answered;
+      write = λ chip old address byte r new p. (verdict-answered r _ (p .answer), left-kept (imageChecks chip old) _ (p .answer) (p .bytes));
+      read = λ chip image address r p. told-answered 0 _ _ (p .answer);
+      reset = λ chip old r new p. (verdict-answered r _ (p .answer), left-kept (imageChecks chip old) _ (p .answer) (p .bytes));
+      confirm = λ chip image r p. verdict-answered r _ (p .answer);
+      steps-of = λ width high low r p. told-answered (pos 0) _ _ (p .answer);
+      as-word = λ number. record { answer = asWord number; kept = record { answer = refl } };
+      bytes-of = λ width steps r p. told-answered (0, 0) _ _ (p .answer);
+      microvolts = λ word. record { answer = voltage word; kept = record { answer = refl } };
+      watch-new = λ behaviour. record { answer = fresh behaviour; kept = record { answer = refl } };
+      watch-sample = sample-answered;
+      watch-acknowledge = λ w. record { answer = acknowledged w; kept = record { answer = refl } };
+      watch-output = λ w. record { answer = shown (w .behaviour) (w .hot) (w .pending); kept = record { answer = refl } };
+      watch-run = λ w samples high hysteresis. record { answer = run w (recorded high hysteresis samples); kept = record { answer = refl } };
+      speed-of = λ chip plan t. record { answer = asks chip (planned chip plan) t; kept = record { answer = refl } };
+      temperatures-in-order = λ chip plan. record { answer = temperaturesInOrder chip plan; kept = record { answer = refl } };
+      speeds-in-order = λ chip plan. record { answer = speedsInOrder chip plan; kept = record { answer = refl } };
+      judge = λ plan r p. verdict-answered r _ (p .answer);
+      asked-of-plan = λ plan t r p. told-answered 0 _ _ (p .answer);
+      asked-of-image = λ chip table image t r p. told-answered 0 _ _ (p .answer);
+      plan-of-body = λ chip table body. record { answer = decoded chip table body; kept = record { answer = refl } };
+      plan-from = λ chip table body r p. found-answered _ _ _ r (p .answer) (p .plan);
+      read-record = λ bytes r p. found-answered _ _ _ r (p .answer) (p .plan);
+      write-record = λ plan old r new p. count-answered r _ _ _ (p .answer) (p .bytes);
+      script = λ plan old r new p. count-answered r _ _ _ (p .answer) (p .bytes);
+      play = λ plan old count r new p. count-answered r _ _ _ (p .answer) (p .bytes);
+      translate = λ input old r new p. count-answered r _ _ _ (p .answer) (p .bytes);
+      yk-write = λ chip old address byte r new p. packed-verdict (p .answer) _ r _ refl (p .kept .answer) (p .kept .bytes) (p .same);
+      yk-read = λ chip image address r p. packed-answered (λ n. n) _ 0 _ refl (told-answered 0 _ _ (p .kept .answer)) (p .same);
+      yk-reset = λ chip old r new p. packed-verdict (p .answer) _ r _ refl (p .kept .answer) (p .kept .bytes) (p .same);
+      yk-identity = λ chip image r p. packed-answered (λ none. 0) _ tt _ refl (verdict-answered (p .answer) _ (p .kept .answer)) (p .same);
+      yk-steps = λ width high low r p. packed-answered asWord _ (pos 0) _ refl (told-answered (pos 0) _ _ (p .kept .answer)) (p .same);
+      yk-bytes = λ width steps r p. packed-answered (λ b. b .0 * 256 + b .1) _ (0, 0) _ refl (told-answered (0, 0) _ _ (p .kept .answer)) (p .same);
+      yk-microvolts = λ word r p. packed-answered (λ n. n) [] 0 (0, p .answer) refl (never-refused 0 (p .answer)) (p .same);
+      yk-sample = λ behaviour facts steps high hysteresis r p. packed-answered factsOf _ _ _ refl (sample-answered _ steps high hysteresis _ (p .kept)) (p .same);
+      yk-acknowledge = λ behaviour facts r p. packed-answered (λ n. n) [] 0 (0, factsOf (p .answer)) refl (never-refused 0 (factsOf (p .answer))) (p .same);
+      yk-read-record = λ bytes r p. used-answered _ (p .answer) r refl (ap (λ (t : ℕ × ℕ). t .0) (p .kept .answer)) (p .same);
+      yk-write-record = λ chip table body old r new p. packed-count (p .answer) _ _ r _ refl (p .kept .answer) (p .kept .bytes) (p .same);
+      yk-asked-of-plan = λ chip table body t r p. packed-answered (λ n. n) _ 0 _ refl (told-answered 0 _ _ (p .kept .answer)) (p .same);
+      yk-asked-of-image = λ chip table image t r p. packed-answered (λ n. n) _ 0 _ refl (told-answered 0 _ _ (p .kept .answer)) (p .same);
+      yk-script = λ chip table body old r new p. packed-count (p .answer) _ _ r _ refl (p .kept .answer) (p .kept .bytes) (p .same);
+      yk-play = λ chip table body old count r new p. packed-count (p .answer) _ _ r _ refl (p .kept .answer) (p .kept .bytes) (p .same);
+      yk-translate = λ input old r new p. packed-count (p .answer) _ _ r _ refl (p .kept .answer) (p .kept .bytes) (p .same);
+    }
 
 pub demand-2 : Demand2
 demand-2 =

@@ -1,3 +1,5 @@
 pub mod Within
 pub mod Unique
+pub mod Bodies
+pub mod Answered
 pub mod Demands

@@ -3,7 +3,7 @@
 use Prim.Native.Nat.{ℕ, zero, suc, _+_, _-_, _≤_, _<_, _^_, min}
 use native.Mathlib.Nat.{min-le-right}
 use native.Mathlib.Omega.{arith}
-use mathlib.Core.Path.{_≡_, refl, ap}
+use mathlib.Core.Path.{_≡_, ap}
 use mathlib.Core.Bool.{Bool, true, false, cond}
 use mathlib.Core.List.{List, [], _∷_, _++_}
 use lib.Dec.{eqb}
@@ -23,14 +23,12 @@ use Rattle.curves.specs.declared.Plan.{Plan}
 use Rattle.curves.specs.Curves.{points}
 use Rattle.curves.specs.Orders.{fulls}
 use Rattle.curves.specs.Planned.{planned}
-use Rattle.plans.specs.Plans.{decoded}
 use Rattle.records.specs.Records.{Sized, roomChecks, writeChecks, encoded, recordLength, chipIn, Writes}
-use Rattle.records.proofs.Encoding.{length-short, record-short, decoded-sized}
+use Rattle.records.proofs.Encoding.{length-short, record-short}
 use Rattle.scripts.specs.Scripts.{scriptOf, scriptFor, fullOf, scriptChecks, Scripts}
 use Rattle.plays.specs.Plays.{playChecks, Plays}
 use Rattle.translation.specs.Text.{textOf, Translates}
 use Rattle.translation.proofs.Bound.{text-short}
-use Rattle.clib.specs.Bodies.{planFrom, unnamed}
 
 -- a value that is told is the value or 0
 pub told-within : {t : ℕ × ℕ} (checks : List Check) (value bound : ℕ) → value < bound → t ≡ told checks value → t .1 < bound
@@ -39,18 +37,6 @@ told-within {t} checks value bound h e = rw (ap (λ (u : ℕ × ℕ). u .1) e) (
     by-test : (b : Bool) → cond b value 0 < bound
     by-test true = h
     by-test false = omega arith
-
--- the arrays of a plan that crossed are as long as their types say
-named-sized : (chip table : ℕ) (bytes : List ℕ) (named : Named) → Sized (whenKnown named (λ c. decoded c table bytes) (unnamed chip table))
-named-sized chip table bytes (Known c) = decoded-sized c table bytes
-named-sized chip table bytes Unknown = record { temperatures = refl; duties = refl; bounds = refl; counts = refl }
-
-plan-sized : (chip table : ℕ) (bytes : List ℕ) → Sized (planFrom chip table bytes)
-unfolding planFrom
-plan-sized chip table bytes = named-sized chip table bytes (chipOf chip)
-
-record-within : (chip table : ℕ) (bytes : List ℕ) → length (encoded (planFrom chip table bytes)) ≤ 18
-record-within chip table bytes = record-short (planFrom chip table bytes) (plan-sized chip table bytes)
 
 -- as many writes as registers, at most
 points-short : (registers bytes : List ℕ) → length (points registers bytes) ≤ length registers
@@ -107,10 +93,9 @@ used-within bytes = by-name (chipOf (chipIn bytes))
     by-name Unknown = omega arith
 
 -- so what a call counts has room above the refusal number
-pub record-room : (chip table : ℕ) (body : List ℕ) {old new : List ℕ} {r : Count} → Writes (planFrom chip table body) old r new → tellsCount r .1 < 2 ^ 56
-record-room chip table body {old} p =
-    let plan = planFrom chip table body in
-    told-within (writeChecks plan old) (length (encoded plan)) (2 ^ 56) (omega (arith, record-within chip table body)) (p .answer)
+pub record-room : {plan : Plan} {old new : List ℕ} {r : Count} → Sized plan → Writes plan old r new → tellsCount r .1 < 2 ^ 56
+record-room {plan} {old} sized p =
+    told-within (writeChecks plan old) (length (encoded plan)) (2 ^ 56) (omega (arith, record-short plan sized)) (p .answer)
 
 pub script-room : {plan : Plan} {old new : List ℕ} {r : Count} → Scripts plan old r new → tellsCount r .1 < 2 ^ 56
 script-room {plan} {old} p =

@@ -1,24 +1,22 @@
--- A plan as it crosses: its chip, its table and the bytes of its body "in the register order".
+-- A plan crosses as its chip, its table and the bytes of its body "in the register order": a record without its mark, so that bytes behind the
+-- body are ignored and a body that is cut short is refused. What each call that takes one checks.
 -- Assumes nothing.
 use Prim.Native.Nat.{ℕ}
-use mathlib.Core.List.{List}
-use Rattle.cards.specs.Cards.{chipOf, whenKnown}
-use Rattle.curves.specs.declared.Plan.{Plan}
-use Rattle.plans.specs.Plans.{zeros, decoded}
+use mathlib.Core.List.{List, _++_}
+use lib.ListN.{length}
+use Rattle.refusal.specs.Checks.{Check}
+use Rattle.records.specs.Records.{planOf, encoded, bodyPlanChecks, roomChecks}
+use Rattle.scripts.specs.Scripts.{scriptFor, roomForPairs}
+use Rattle.plays.specs.Plays.{startChecks}
 
--- the plan of a number that names no chip: refused 3 by every call
-abbrev pub unnamed : ℕ → ℕ → Plan
-unnamed chip table =
-    record {
-      chip = chip;
-      table = table;
-      temperatures = zeros 4;
-      critical = 0;
-      duties = zeros 4;
-      bounds = zeros 4;
-      counts = zeros 5;
-    }
+-- 3, 4, 5, 6, 7 "and then 9"
+abbrev pub writeBodyChecks : ℕ → ℕ → List ℕ → List ℕ → List Check
+writeBodyChecks chip table body out = bodyPlanChecks chip table body ++ roomChecks (encoded (planOf chip table body)) out
 
--- missing bytes count as zero, further ones are ignored
-unfoldable pub planFrom : ℕ → ℕ → List ℕ → Plan
-planFrom chip table body = whenKnown (chipOf chip) (λ c. decoded c table body) (unnamed chip table)
+abbrev pub scriptBodyChecks : ℕ → ℕ → List ℕ → List ℕ → List Check
+scriptBodyChecks chip table body out =
+    bodyPlanChecks chip table body ++ roomForPairs (length (scriptFor (planOf chip table body))) out
+
+-- 3, 4, 5, 6, 7, "8, 10 and no 9"
+abbrev pub playBodyChecks : ℕ → ℕ → List ℕ → List ℕ → List Check
+playBodyChecks chip table body image = bodyPlanChecks chip table body ++ startChecks (planOf chip table body) image

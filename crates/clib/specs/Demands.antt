@@ -1,28 +1,154 @@
--- Demand 2, in the customer's words, of the answers that callers get. Demand 1 is `Demand1` of `refusal`, demand 3 is `Demand3` of `plays`.
+-- Demands 1 and 2, in the customer's words, of the answers that callers get. Demand 3 is `Demand3` of `plays`.
 -- Assumes nothing.
-use Prim.Native.Nat.{ℕ, _≤_, _<_}
+use Prim.Native.Nat.{ℕ, _≤_, _<_, _/_, _%_}
 use mathlib.Core.Path.{_≡_}
-use mathlib.Core.Bool.{true}
-use mathlib.Core.List.{List, _++_}
-use lib.IntN.{ℤ}
+use mathlib.Core.Bool.{Bool, true, not}
+use mathlib.Core.List.{List, [], _∷_, _++_}
+use lib.IntN.{ℤ, pos}
 use lib.ListN.{length, getD, take, drop}
+use Rattle.refusal.specs.declared.Refusal.{Refusal}
+use Rattle.refusal.specs.declared.Outcome.{Outcome}
 use Rattle.refusal.specs.declared.Outcome.the-variants.{Accepted}
 use Rattle.refusal.specs.declared.Count.{Count}
 use Rattle.refusal.specs.declared.Count.the-variants.{Of}
+use Rattle.refusal.specs.Refusals.{Numbers}
+use Rattle.refusal.specs.Answers.{tells, tellsCount}
+use Rattle.refusal.specs.Checks.{Check, first}
 use Rattle.cards.specs.declared.Chip.{Chip}
+use Rattle.cards.specs.declared.Named.{Named}
 use Rattle.cards.specs.declared.Named.the-variants.{Known}
-use Rattle.cards.specs.Cards.{chipOf}
+use Rattle.cards.specs.declared.Row.{Row}
+use Rattle.cards.specs.declared.Place.{Place}
+use Rattle.cards.specs.Cards.{chipOf, unknown, hasTable, tellsNamed, tellsPlace, Names, Finds, Places}
 use Rattle.cards.specs.Identity.{confirmed}
-use Rattle.identities.specs.Identities.{Confirms}
+use Rattle.images.specs.declared.ByteRead.{ByteRead}
+use Rattle.images.specs.Images as images
+use Rattle.identities.specs.Identities.{identityChecks, Confirms}
 use Rattle.readings.specs.declared.Steps.{Steps}
 use Rattle.readings.specs.declared.Steps.the-variants.{Counted}
 use Rattle.readings.specs.declared.Bytes.{Bytes}
 use Rattle.readings.specs.declared.Bytes.the-variants.{Pair}
 use Rattle.readings.specs.Readings.{cleared}
 use Rattle.readings.specs.Promises as readings
+use Rattle.watch.specs.declared.Behaviour.{Behaviour}
+use Rattle.watch.specs.declared.Watch.{Watch}
+use Rattle.watch.specs.declared.Sampled.{Sampled}
+use Rattle.watch.specs.Promises as watch
 use Rattle.curves.specs.declared.Plan.{Plan}
+use Rattle.curves.specs.Planned as curves
+use Rattle.plans.specs.declared.Asked.{Asked}
+use Rattle.plans.specs.Plans as plans
 use Rattle.records.specs.declared.Found.{Found}
 use Rattle.records.specs.Records as records
+use Rattle.scripts.specs.Scripts as scripts
+use Rattle.plays.specs.Plays as plays
+use Rattle.translation.specs.Text as translation
+use Rattle.clib.specs.Facts.{watchOf, factsOf}
+use Rattle.clib.specs.Bodies.{writeBodyChecks, scriptBodyChecks, playBodyChecks}
+use Rattle.clib.specs.Packed.{YkWrite, YkRead, YkReset, YkIdentity, YkSteps, YkBytes, YkMicrovolts, YkSample, YkAcknowledge, YkReadRecord, YkWriteRecord, YkAskedOfPlan, YkAskedOfImage, YkScript, YkPlay, YkTranslate}
+
+-- Of an answer that tells a number and values: the number is that of the first check that applies, and where it is not 0 "zero in every other part of
+-- the answer" ..
+pub record Answered {A : Type 0} (checks : List Check) (none : A) (told : ℕ × A) : Type 0 where
+  pub number : told .0 ≡ first checks
+  pub zero : (told .0 ≡ 0 → ⊥) → told .1 ≡ none
+
+-- .. "and each lent buffer holds what it held"
+abbrev pub Kept : ℕ → List ℕ → List ℕ → Type 0
+Kept number old new = (number ≡ 0 → ⊥) → new ≡ old
+
+-- Of a call that gives no number and refuses nothing: there is an answer, whatever comes in.
+pub record Given {A : Type 0} (Promise : A → Type 0) : Type 0 where
+  pub answer : A
+  pub kept : Promise answer
+
+-- a verdict has a number and no other part; what is found of a plan has a count and the plan
+abbrev pub verdict : Outcome → ℕ × Unit {0}
+verdict r = (tells r, tt)
+
+abbrev pub tellsFound : Found → ℕ × (ℕ × Plan)
+tellsFound r = (tellsCount (r .answer) .0, (tellsCount (r .answer) .1, r .plan))
+
+-- the number that crosses, taken apart: the refusal is its low byte, the value the rest
+abbrev pub unpacked : ℕ → ℕ × ℕ
+unpacked r = (r % 256, r / 256)
+
+-- "Every input is answered .. A refusal carries its number from the rules paper, a count of zero, and no lent byte altered", call by call. That every
+-- input is answered is that no call has a condition on what it is given; a slice that is only read keeps its bytes by its type.
+pub record Demand1 : Type 0 where
+  pub number : (refusal : Refusal) → Given (λ n. Numbers refusal n)
+  pub chip-of : (number : ℕ) (r : Named) → Names number r → Answered ((unknown number, 3) ∷ []) 0 (tellsNamed r)
+  pub row-of : (chip : Chip) (address : ℕ) → Given (λ row. Finds chip address row)
+  pub table-at : (chip : Chip) (number : ℕ) (r : Place) → Places chip number r → Answered ((not (hasTable chip number), 4) ∷ []) 0 (tellsPlace r)
+  -- register images
+  pub write : (chip : ℕ) (old : List ℕ) (address byte : ℕ) (r : Outcome) (new : List ℕ) → images.Writes chip old address byte r new
+      → Answered (images.imageChecks chip old) tt (verdict r) × Kept (tells r) old new
+  pub read : (chip : ℕ) (image : List ℕ) (address : ℕ) (r : ByteRead) → images.Reads chip image address r
+      → Answered (images.imageChecks chip image) 0 (images.tellsByte r)
+  pub reset : (chip : ℕ) (old : List ℕ) (r : Outcome) (new : List ℕ) → images.Resets chip old r new
+      → Answered (images.imageChecks chip old) tt (verdict r) × Kept (tells r) old new
+  pub confirm : (chip : ℕ) (image : List ℕ) (r : Outcome) → Confirms chip image r → Answered (identityChecks chip image) tt (verdict r)
+  -- readings
+  pub steps-of : (width high low : ℕ) (r : Steps) → readings.Counts width high low r
+      → Answered (readings.stepsChecks width) (pos 0) (readings.tellsSteps r)
+  pub as-word : (number : ℤ) → Given (λ word. readings.Encodes number word)
+  pub bytes-of : (width : ℕ) (steps : ℤ) (r : Bytes) → readings.Writes width steps r
+      → Answered (readings.bytesChecks width steps) (0, 0) (readings.tellsBytes r)
+  pub microvolts : (word : ℕ) → Given (λ v. readings.Measures word v)
+  -- the watch: "a watch comes back unchanged"
+  pub watch-new : (behaviour : Behaviour) → Given (λ w. watch.Starts behaviour w)
+  pub watch-sample : (w : Watch) (steps high hysteresis : ℤ) (r : Sampled) → watch.Samples w steps high hysteresis r
+      → Answered (watch.sampleChecks steps) w (watch.tells r)
+  pub watch-acknowledge : (w : Watch) → Given (λ r. watch.Acknowledges w r)
+  pub watch-output : (w : Watch) → Given (λ r. watch.Shows w r)
+  pub watch-run : (w : Watch) (samples : List ℤ) (high hysteresis : ℤ) → Given (λ r. watch.Runs w samples high hysteresis r)
+  -- plans
+  pub speed-of : (chip : Chip) (plan : Plan) (t : ℕ) → Given (λ r. curves.Asks chip plan t r)
+  pub temperatures-in-order : (chip : Chip) (plan : Plan) → Given (λ r. curves.OrdersTemperatures chip plan r)
+  pub speeds-in-order : (chip : Chip) (plan : Plan) → Given (λ r. curves.OrdersSpeeds chip plan r)
+  pub judge : (plan : Plan) (r : Outcome) → plans.Judges plan r → Answered (plans.planChecks plan) tt (verdict r)
+  pub asked-of-plan : (plan : Plan) (t : ℕ) (r : Asked) → plans.AsksPlan plan t r → Answered (plans.askPlanChecks plan) 0 (plans.tellsAsked r)
+  pub asked-of-image : (chip table : ℕ) (image : List ℕ) (t : ℕ) (r : Asked) → plans.AsksImage chip table image t r
+      → Answered (plans.askImageChecks chip table image) 0 (plans.tellsAsked r)
+  pub plan-of-body : (chip : Chip) (table : ℕ) (body : List ℕ) → Given (λ plan. plans.Decodes chip table body plan)
+  -- records, scripts, plays and texts
+  pub plan-from : (chip table : ℕ) (body : List ℕ) (r : Found) → records.Plans chip table body r
+      → Answered (records.bodyChecks chip table body) (0, records.noPlan) (tellsFound r)
+  pub read-record : (bytes : List ℕ) (r : Found) → records.Reads bytes r → Answered (records.recordChecks bytes) (0, records.noPlan) (tellsFound r)
+  pub write-record : (plan : Plan) (old : List ℕ) (r : Count) (new : List ℕ) → records.Writes plan old r new
+      → Answered (records.writeChecks plan old) 0 (tellsCount r) × Kept (tellsCount r .0) old new
+  pub script : (plan : Plan) (old : List ℕ) (r : Count) (new : List ℕ) → scripts.Scripts plan old r new
+      → Answered (scripts.scriptChecks plan old) 0 (tellsCount r) × Kept (tellsCount r .0) old new
+  pub play : (plan : Plan) (old : List ℕ) (count : ℕ) (r : Count) (new : List ℕ) → plays.Plays plan old count r new
+      → Answered (plays.playChecks plan old) 0 (tellsCount r) × Kept (tellsCount r .0) old new
+  pub translate : (input old : List ℕ) (r : Count) (new : List ℕ) → translation.Translates input old r new
+      → Answered (records.roomChecks (translation.textOf input) old) 0 (tellsCount r) × Kept (tellsCount r .0) old new
+  -- the C boundary
+  pub yk-write : (chip : ℕ) (old : List ℕ) (address byte r : ℕ) (new : List ℕ) → YkWrite chip old address byte r new
+      → Answered (images.imageChecks chip old) 0 (unpacked r) × Kept (unpacked r .0) old new
+  pub yk-read : (chip : ℕ) (image : List ℕ) (address r : ℕ) → YkRead chip image address r → Answered (images.imageChecks chip image) 0 (unpacked r)
+  pub yk-reset : (chip : ℕ) (old : List ℕ) (r : ℕ) (new : List ℕ) → YkReset chip old r new
+      → Answered (images.imageChecks chip old) 0 (unpacked r) × Kept (unpacked r .0) old new
+  pub yk-identity : (chip : ℕ) (image : List ℕ) (r : ℕ) → YkIdentity chip image r → Answered (identityChecks chip image) 0 (unpacked r)
+  pub yk-steps : (width high low r : ℕ) → YkSteps width high low r → Answered (readings.stepsChecks width) 0 (unpacked r)
+  pub yk-bytes : (width : ℕ) (steps : ℤ) (r : ℕ) → YkBytes width steps r → Answered (readings.bytesChecks width steps) 0 (unpacked r)
+  pub yk-microvolts : (word r : ℕ) → YkMicrovolts word r → Answered [] 0 (unpacked r)
+  pub yk-sample : (behaviour facts : ℕ) (steps high hysteresis : ℤ) (r : ℕ) → YkSample behaviour facts steps high hysteresis r
+      → Answered (watch.sampleChecks steps) (factsOf (watchOf behaviour facts)) (unpacked r)
+  pub yk-acknowledge : (behaviour facts r : ℕ) → YkAcknowledge behaviour facts r → Answered [] 0 (unpacked r)
+  pub yk-read-record : (bytes : List ℕ) (r : ℕ) → YkReadRecord bytes r → Answered (records.recordChecks bytes) 0 (unpacked r)
+  pub yk-write-record : (chip table : ℕ) (body old : List ℕ) (r : ℕ) (new : List ℕ) → YkWriteRecord chip table body old r new
+      → Answered (writeBodyChecks chip table body old) 0 (unpacked r) × Kept (unpacked r .0) old new
+  pub yk-asked-of-plan : (chip table : ℕ) (body : List ℕ) (t r : ℕ) → YkAskedOfPlan chip table body t r
+      → Answered (records.bodyChecks chip table body) 0 (unpacked r)
+  pub yk-asked-of-image : (chip table : ℕ) (image : List ℕ) (t r : ℕ) → YkAskedOfImage chip table image t r
+      → Answered (plans.askImageChecks chip table image) 0 (unpacked r)
+  pub yk-script : (chip table : ℕ) (body old : List ℕ) (r : ℕ) (new : List ℕ) → YkScript chip table body old r new
+      → Answered (scriptBodyChecks chip table body old) 0 (unpacked r) × Kept (unpacked r .0) old new
+  pub yk-play : (chip table : ℕ) (body old : List ℕ) (count r : ℕ) (new : List ℕ) → YkPlay chip table body old count r new
+      → Answered (playBodyChecks chip table body old) 0 (unpacked r) × Kept (unpacked r .0) old new
+  pub yk-translate : (input old : List ℕ) (r : ℕ) (new : List ℕ) → YkTranslate input old r new
+      → Answered (records.roomChecks (translation.textOf input) old) 0 (unpacked r) × Kept (unpacked r .0) old new
 
 pub record Demand2 : Type 0 where
   -- "Temperatures go from bytes to steps and back, ignored bits aside": the bytes of n steps are counted as n ..

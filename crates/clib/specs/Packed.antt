@@ -28,7 +28,7 @@ use Rattle.scripts.specs.Scripts as scripts
 use Rattle.plays.specs.Plays as plays
 use Rattle.translation.specs.Text as translation
 use Rattle.clib.specs.Facts.{watchOf, factsOf}
-use Rattle.clib.specs.Bodies.{planFrom}
+use Rattle.clib.specs.Bodies.{writeBodyChecks, scriptBodyChecks, playBodyChecks}
 
 -- the refusal number in the low byte, the value above it
 abbrev pub packed : ℕ → ℕ → ℕ
@@ -113,19 +113,23 @@ abbrev pub YkReadRecord : List ℕ → ℕ → Type 0
 YkReadRecord bytes r = Answers packsFound (λ f. records.Reads bytes f) r
 
 abbrev pub YkWriteRecord : ℕ → ℕ → List ℕ → List ℕ → ℕ → List ℕ → Type 0
-YkWriteRecord chip table body old r new = Answers packsCount (λ a. records.Writes (planFrom chip table body) old a new) r
+YkWriteRecord chip table body old r new =
+    Answers packsCount (λ a. records.WritesBy (writeBodyChecks chip table body old) (records.planOf chip table body) old a new) r
 
 abbrev pub YkAskedOfPlan : ℕ → ℕ → List ℕ → ℕ → ℕ → Type 0
-YkAskedOfPlan chip table body t r = Answers packsAsked (λ a. plans.AsksPlan (planFrom chip table body) t a) r
+YkAskedOfPlan chip table body t r =
+    Answers packsAsked (λ a. plans.AsksPlanBy (records.bodyChecks chip table body) (records.planOf chip table body) t a) r
 
 abbrev pub YkAskedOfImage : ℕ → ℕ → List ℕ → ℕ → ℕ → Type 0
 YkAskedOfImage chip table image t r = Answers packsAsked (λ a. plans.AsksImage chip table image t a) r
 
 abbrev pub YkScript : ℕ → ℕ → List ℕ → List ℕ → ℕ → List ℕ → Type 0
-YkScript chip table body old r new = Answers packsCount (λ a. scripts.Scripts (planFrom chip table body) old a new) r
+YkScript chip table body old r new =
+    Answers packsCount (λ a. scripts.ScriptsBy (scriptBodyChecks chip table body old) (records.planOf chip table body) old a new) r
 
 abbrev pub YkPlay : ℕ → ℕ → List ℕ → List ℕ → ℕ → ℕ → List ℕ → Type 0
-YkPlay chip table body old count r new = Answers packsCount (λ a. plays.Plays (planFrom chip table body) old count a new) r
+YkPlay chip table body old count r new =
+    Answers packsCount (λ a. plays.PlaysBy (playBodyChecks chip table body old) (records.planOf chip table body) old count a new) r
 
 abbrev pub YkTranslate : List ℕ → List ℕ → ℕ → List ℕ → Type 0
 YkTranslate input old r new = Answers packsCount (λ a. translation.Translates input old a new) r

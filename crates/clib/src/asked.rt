@@ -1,15 +1,22 @@
 // The speed that a plan, or the curve in an image, asks at a temperature.
-use crate::bodies;
 use crate::packing;
+use refusal::Count;
 ghost use Rattle.clib.specs.Packed.{YkAskedOfPlan, YkAskedOfImage};
 
 #[no_mangle]
 pub extern "C" fn yk_asked_of_plan(chip: u8, table: u8, body: &[u8], t: u8) -> u64
     ensures { λ r. ⌜ YkAskedOfPlan chip table (now (body .entry)) t r ⌝ }
 {
-    let plan = bodies::plan_from(chip, table, body);
-    let asked = plans::asked_of_plan(plan, t);
-    packing::of_asked(asked)
+    let found = records::plan_from(chip, table, body);
+    let answer = found.answer;
+    match answer {
+        Count::Refused(refusal) => packing::refused(refusal),
+        Count::Of(_) => {
+            let plan = found.plan;
+            let asked = plans::asked_of_plan(plan, t);
+            packing::of_asked(asked)
+        }
+    }
 }
 
 #[no_mangle]

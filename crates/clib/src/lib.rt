@@ -1,7 +1,6 @@
 // The C boundary: each call of the library as a function on numbers and byte slices that answers one number.
 mod alarm;
 mod asked;
-mod bodies;
 mod facts;
 mod packing;
 mod plan_records;

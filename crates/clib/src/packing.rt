@@ -5,8 +5,10 @@ use readings::Bytes;
 use readings::Steps;
 use refusal::Count;
 use refusal::Outcome;
+use refusal::Refusal;
 ghost use mathlib.Core.Path.{_≡_};
 ghost use Prim.Native.Nat.{_<_, _^_};
+ghost use Rattle.refusal.specs.Refusals.{numberOf};
 ghost use Rattle.refusal.specs.Answers.{tellsCount};
 ghost use Rattle.clib.specs.Packed.{packed, packsOutcome, packsCount, packsByte, packsAsked, packsBytes, packsSteps, packsUsed};
 
@@ -18,12 +20,19 @@ pub(crate) fn packed(refusal: u8, value: u64) -> u64
     refusal as u64 + 256 * value
 }
 
+// "A refusal returns its number and zero in every other part of the answer".
+pub(crate) fn refused(refusal: Refusal) -> u64
+    ensures { λ r. ⌜ r ≡ packed (numberOf refusal) 0 ⌝ }
+{
+    packed(refusal::number(refusal), 0)
+}
+
 pub(crate) fn of_outcome(outcome: Outcome) -> u64
     ensures { λ r. ⌜ r ≡ packsOutcome outcome ⌝ }
 {
     match outcome {
         Outcome::Accepted => packed(0, 0),
-        Outcome::Refused(refusal) => packed(refusal::number(refusal), 0),
+        Outcome::Refused(refusal) => refused(refusal),
     }
 }
 
@@ -32,7 +41,7 @@ pub(crate) fn of_byte(read: ByteRead) -> u64
 {
     match read {
         ByteRead::Byte(byte) => packed(0, byte as u64),
-        ByteRead::Refused(refusal) => packed(refusal::number(refusal), 0),
+        ByteRead::Refused(refusal) => refused(refusal),
     }
 }
 
@@ -42,7 +51,7 @@ pub(crate) fn of_bytes(bytes: Bytes) -> u64
 {
     match bytes {
         Bytes::Pair(high, low) => packed(0, high as u64 * 256 + low as u64),
-        Bytes::Refused(refusal) => packed(refusal::number(refusal), 0),
+        Bytes::Refused(refusal) => refused(refusal),
     }
 }
 
@@ -51,7 +60,7 @@ pub(crate) fn of_asked(asked: Asked) -> u64
 {
     match asked {
         Asked::Speed(speed) => packed(0, speed as u64),
-        Asked::Refused(refusal) => packed(refusal::number(refusal), 0),
+        Asked::Refused(refusal) => refused(refusal),
     }
 }
 
@@ -61,7 +70,7 @@ pub(crate) fn of_steps(steps: Steps) -> u64
 {
     match steps {
         Steps::Counted(number) => packed(0, readings::as_word(number) as u64),
-        Steps::Refused(refusal) => packed(refusal::number(refusal), 0),
+        Steps::Refused(refusal) => refused(refusal),
     }
 }
 
@@ -71,7 +80,7 @@ pub(crate) fn of_count(count: Count) -> u64
 {
     match count {
         Count::Of(n) => packed(0, n as u64),
-        Count::Refused(refusal) => packed(refusal::number(refusal), 0),
+        Count::Refused(refusal) => refused(refusal),
     }
 }
 
@@ -82,6 +91,6 @@ pub(crate) fn of_used(used: Count, chip: u8, table: u8) -> u64
 {
     match used {
         Count::Of(n) => packed(0, n as u64 + 256 * chip as u64 + 65536 * table as u64),
-        Count::Refused(refusal) => packed(refusal::number(refusal), 0),
+        Count::Refused(refusal) => refused(refusal),
     }
 }

@@ -1,6 +1,6 @@
 // Plan records: read from bytes, and written to a lent buffer.
-use crate::bodies;
 use crate::packing;
+use refusal::Count;
 ghost use Rattle.clib.specs.Packed.{YkReadRecord, YkWriteRecord};
 
 // The caller has the body, from the fifth of the bytes used on.
@@ -18,7 +18,14 @@ pub extern "C" fn yk_read_record(bytes: &[u8]) -> u64
 pub extern "C" fn yk_write_record(chip: u8, table: u8, body: &[u8], out: &mut [u8]) -> u64
     ensures { λ r. ⌜ YkWriteRecord chip table (now (body .entry)) (now (out .entry)) r (now (out .exit)) ⌝ }
 {
-    let plan = bodies::plan_from(chip, table, body);
-    let used = records::write(plan, out);
-    packing::of_count(used)
+    let found = records::plan_from(chip, table, body);
+    let answer = found.answer;
+    match answer {
+        Count::Refused(refusal) => packing::refused(refusal),
+        Count::Of(_) => {
+            let plan = found.plan;
+            let used = records::write(plan, out);
+            packing::of_count(used)
+        }
+    }
 }

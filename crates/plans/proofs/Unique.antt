@@ -7,11 +7,12 @@ use mathlib.Core.List.{List}
 use Rattle.refusal.proofs.Numbers.{numberOf-injective, numberOf-positive}
 use Rattle.refusal.proofs.Answers.{tells-injective}
 use Rattle.refusal.specs.declared.Outcome.{Outcome}
+use Rattle.refusal.specs.Checks.{Check}
 use Rattle.cards.specs.declared.Chip.{Chip}
 use Rattle.curves.specs.declared.Plan.{Plan}
 use Rattle.plans.specs.declared.Asked.{Asked}
 use Rattle.plans.specs.declared.Asked.the-variants as asked
-use Rattle.plans.specs.Plans.{tellsAsked, Judges, AsksPlan, AsksImage, Decodes}
+use Rattle.plans.specs.Plans.{tellsAsked, Judges, AsksPlanBy, AsksImage, Decodes}
 
 pub tellsAsked-injective : (r s : Asked) → tellsAsked r ≡ tellsAsked s → r ≡ s
 tellsAsked-injective (asked.Speed a) (asked.Speed b) e = ap asked.Speed (ap (λ (t : ℕ × ℕ). t .1) e)
@@ -22,7 +23,7 @@ tellsAsked-injective (asked.Refused p) (asked.Refused q) e = ap asked.Refused (n
 pub judges-unique : {plan : Plan} {r s : Outcome} → Judges plan r → Judges plan s → r ≡ s
 judges-unique {r = r} {s = s} p q = tells-injective r s (p .answer ∙ sym (q .answer))
 
-pub asksPlan-unique : {plan : Plan} {t : ℕ} {r s : Asked} → AsksPlan plan t r → AsksPlan plan t s → r ≡ s
+pub asksPlan-unique : {checks : List Check} {plan : Plan} {t : ℕ} {r s : Asked} → AsksPlanBy checks plan t r → AsksPlanBy checks plan t s → r ≡ s
 asksPlan-unique {r = r} {s = s} p q = tellsAsked-injective r s (p .answer ∙ sym (q .answer))
 
 pub asksImage-unique : {chip table : ℕ} {image : List ℕ} {t : ℕ} {r s : Asked}

@@ -3,7 +3,7 @@
 use Prim.Native.Nat.{ℕ}
 use mathlib.Core.Path.{_≡_}
 use mathlib.Core.Bool.{Bool, true, not}
-use mathlib.Core.List.{List, [], _∷_}
+use mathlib.Core.List.{List, [], _∷_, _++_}
 use lib.ListN.{getD, replicate}
 use Rattle.refusal.specs.declared.Outcome.{Outcome}
 use Rattle.refusal.specs.Refusals.{numberOf}
@@ -68,14 +68,16 @@ temperaturesOut plan = not (whenKnown (chipOf (plan .chip)) (λ c. temperaturesI
 abbrev pub speedsOut : Plan → Bool
 speedsOut plan = not (whenKnown (chipOf (plan .chip)) (λ c. speedsInOrder c plan) true)
 
+-- "Asking a speed .. of a plan 3 and 4, never 6 or 7"
+abbrev pub askPlanChecks : Plan → List Check
+askPlanChecks plan = (unknown (plan .chip), 3) ∷ (noTable (plan .chip) (plan .table), 4) ∷ []
+
+abbrev pub orderChecks : Plan → List Check
+orderChecks plan = (temperaturesOut plan, 6) ∷ (speedsOut plan, 7) ∷ []
+
 -- "checks the plan by 3, 4, 6, 7"
 abbrev pub planChecks : Plan → List Check
-planChecks plan =
-    (unknown (plan .chip), 3)
-    ∷ (noTable (plan .chip) (plan .table), 4)
-    ∷ (temperaturesOut plan, 6)
-    ∷ (speedsOut plan, 7)
-    ∷ []
+planChecks plan = askPlanChecks plan ++ orderChecks plan
 
 -- the paper's number and the speed of an answer
 abbrev pub tellsAsked : Asked → ℕ × ℕ
@@ -86,16 +88,13 @@ tellsAsked (asked.Refused r) = (numberOf r, 0)
 pub record Judges (plan : Plan) (r : Outcome) : Type 0 where
   pub answer : tells r ≡ first (planChecks plan)
 
--- "Asking a speed .. of a plan 3 and 4, never 6 or 7"
-abbrev pub askPlanChecks : Plan → List Check
-askPlanChecks plan = (unknown (plan .chip), 3) ∷ (noTable (plan .chip) (plan .table), 4) ∷ []
+-- what a call that asks a speed of a plan promises, by its own list of checks ..
+pub record AsksPlanBy (checks : List Check) (plan : Plan) (t : ℕ) (r : Asked) : Type 0 where
+  pub answer : tellsAsked r ≡ told checks (whenKnown (chipOf (plan .chip)) (λ c. asks c (planned c plan) t) 0)
 
--- what `plans::asked_of_plan` promises
-pub record AsksPlan (plan : Plan) (t : ℕ) (r : Asked) : Type 0 where
-  pub answer :
-      tellsAsked r
-      ≡ told (askPlanChecks plan)
-      (whenKnown (chipOf (plan .chip)) (λ c. asks c (planned c plan) t) 0)
+-- .. and so what `plans::asked_of_plan` promises
+abbrev pub AsksPlan : Plan → ℕ → Asked → Type 0
+AsksPlan plan t r = AsksPlanBy (askPlanChecks plan) plan t r
 
 -- "Asking a speed of an image checks 3, 4 and 8"
 abbrev pub askImageChecks : ℕ → ℕ → List ℕ → List Check

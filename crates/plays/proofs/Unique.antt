@@ -5,9 +5,10 @@ use mathlib.Core.Path.{_≡_, sym, _∙_}
 use mathlib.Core.List.{List}
 use Rattle.refusal.proofs.Answers.{tellsCount-injective}
 use Rattle.refusal.specs.declared.Count.{Count}
+use Rattle.refusal.specs.Checks.{Check}
 use Rattle.curves.specs.declared.Plan.{Plan}
-use Rattle.plays.specs.Plays.{Plays}
+use Rattle.plays.specs.Plays.{PlaysBy}
 
-pub plays-unique : {plan : Plan} {old : List ℕ} {count : ℕ} {r s : Count} {l m : List ℕ}
-    → Plays plan old count r l → Plays plan old count s m → (r ≡ s) × (l ≡ m)
+pub plays-unique : {checks : List Check} {plan : Plan} {old : List ℕ} {count : ℕ} {r s : Count} {l m : List ℕ}
+    → PlaysBy checks plan old count r l → PlaysBy checks plan old count s m → (r ≡ s) × (l ≡ m)
 plays-unique {r = r} {s = s} p q = (tellsCount-injective r s (p .answer ∙ sym (q .answer)), p .bytes ∙ sym (q .bytes))

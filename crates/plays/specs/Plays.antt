@@ -27,10 +27,15 @@ startChecks plan image = (notAnImage image, 8) ∷ (unconfirmed (plan .chip) ima
 abbrev pub playChecks : Plan → List ℕ → List Check
 playChecks plan image = planChecks plan ++ startChecks plan image
 
--- what `plays::play` promises: "a number above the script's length means all. It answers how many it made."
-pub record Plays (plan : Plan) (old : List ℕ) (count : ℕ) (r : Count) (new : List ℕ) : Type 0 where
-  pub answer : tellsCount r ≡ told (playChecks plan old) (min count (length (scriptFor plan)))
-  pub bytes : new ≡ left (playChecks plan old) (whenKnown (chipOf (plan .chip)) (λ c. played c (take count (scriptOf c plan)) old) old) old
+-- what a call that plays a plan's script promises, by its own list of checks: "a number above the script's length means all. It answers how many
+-- it made." ..
+pub record PlaysBy (checks : List Check) (plan : Plan) (old : List ℕ) (count : ℕ) (r : Count) (new : List ℕ) : Type 0 where
+  pub answer : tellsCount r ≡ told checks (min count (length (scriptFor plan)))
+  pub bytes : new ≡ left checks (whenKnown (chipOf (plan .chip)) (λ c. played c (take count (scriptOf c plan)) old) old) old
+
+-- .. and so what `plays::play` promises
+abbrev pub Plays : Plan → List ℕ → ℕ → Count → List ℕ → Type 0
+Plays plan old count r new = PlaysBy (playChecks plan old) plan old count r new
 
 -- The contract of the part that writes. What an image is after the first n pairs of a script's bytes ..
 abbrev pub after : ℕ → List ℕ → ℕ → List ℕ → List ℕ

@@ -4,26 +4,106 @@ use Prim.Native.Nat.{ℕ, _+_, _≤_, _<_}
 use native.Mathlib.Omega.{arith}
 use mathlib.Core.Path.{_≡_, refl, sym, ap, _∙_}
 use mathlib.Core.Bool.{Bool, true, false, not, _&&_, _||_}
-use mathlib.Core.List.{List, _++_}
-use borrow.Author.Tests.{lt-ltb, le-ltb}
+use mathlib.Core.List.{List, [], _++_}
+use borrow.Author.Tests.{lt-ltb, le-ltb, ltb-false, not-false}
 use lib.Dec.{eqb}
-use lib.ListN.{length, getD, take, drop, length-drop}
+use lib.ListN.{length, getD, take, drop}
 use lib.Seq.{take-all, paste}
 use Rattle.refusal.specs.declared.Refusal.{Refusal}
 use Rattle.refusal.specs.Refusals.{numberOf}
-use Rattle.refusal.specs.Checks.{first, told}
+use Rattle.refusal.specs.Checks.{Check, first, told}
 use Rattle.refusal.proofs.Numbers.{numberOf-positive}
-use Rattle.refusal.proofs.Passed.{first-passed, first-refused, when-passed, when-refused, told-passed, told-refused}
+use Rattle.refusal.proofs.Passed.{all-passed, first-passed, first-refused, when-passed, when-refused, told-passed, told-refused}
+use Rattle.refusal.specs.declared.Count.{Count}
 use Rattle.refusal.specs.declared.Count.the-variants as counted
 use Rattle.refusal.specs.Answers.{tellsCount}
 use Rattle.cards.specs.declared.Chip.{Chip}
 use Rattle.cards.specs.declared.Named.the-variants.{Known}
 use Rattle.cards.specs.Cards.{chipOf, whenKnown, hasTable}
+use Rattle.cards.proofs.Numbers.{chip-known}
 use Rattle.curves.specs.declared.Plan.{Plan}
-use Rattle.plans.specs.Plans.{decoded, planChecks}
+use Rattle.plans.specs.Plans.{decoded, askPlanChecks, orderChecks, planChecks}
 use Rattle.records.specs.declared.Found.{Found}
-use Rattle.records.specs.Records.{bodyLength, recordLength, recordOf, encoded, chipIn, tableIn, bodyIn, noPlan, planIn, wrongMark, recordChecks, writeChecks, roomChecks, Refuses, Reads, Writes}
+use Rattle.records.specs.Records.{bodyLength, recordLength, recordOf, encoded, chipIn, tableIn, bodyIn, noPlan, planOf, planIn, wrongMark, bodyChecks, bodyPlanChecks, recordChecks, writeChecks, roomChecks, Refuses, Plans, Reads, Writes}
 use Rattle.records.proofs.Chips.{decoded-chip, decoded-table}
+
+-- what an answer with a count says of the call
+pub told-of : (checks : List Check) (value n : ℕ) (r : Count) → r ≡ counted.Of n → tellsCount r ≡ told checks value
+    → (first checks ≡ 0) × (n ≡ value)
+told-of checks value n r e t =
+    let both : (0, n) ≡ told checks value = ap tellsCount (sym e) ∙ t in
+    let none : first checks ≡ 0 = sym (ap (λ (p : ℕ × ℕ). p .0) both) in
+    (none, ap (λ (p : ℕ × ℕ). p .1) both ∙ sym (when-passed value 0 none))
+
+-- a body that lacks nothing
+pub record Whole (number table : ℕ) (bytes : List ℕ) : Type 0 where
+  pub chip : Chip
+  pub named : chipOf number ≡ Known chip
+  pub has : hasTable chip table ≡ true
+  pub long : bodyLength chip ≤ length bytes
+
+pub whole-body : (number table : ℕ) (bytes : List ℕ) → first (bodyChecks number table bytes) ≡ 0 → Whole number table bytes
+whole-body number table bytes h =
+    let p = all-passed (bodyChecks number table bytes) refl h in
+    let known = chip-known number (p .0) in
+    record {
+      chip = known .chip;
+      named = known .named;
+      has = not-false _ (rw (known .named) at (p .1 .0));
+      long = ltb-false (length bytes) (bodyLength (known .chip)) (rw (known .named) at (p .1 .1 .0));
+    }
+
+-- no check refuses it, and what is left to check is what its plan is judged by, whatever is checked behind it
+pub whole-passed : (number table : ℕ) (bytes : List ℕ) → Whole number table bytes → first (bodyChecks number table bytes) ≡ 0
+whole-passed number table bytes W = rw (W .named, W .has, le-ltb (length bytes) (bodyLength (W .chip)) (W .long))
+
+pub whole-asked : (number table : ℕ) (bytes : List ℕ) (W : Whole number table bytes)
+    → first (askPlanChecks (decoded (W .chip) table bytes)) ≡ first (bodyChecks number table bytes)
+whole-asked number table bytes W =
+    rw
+    (W .named, decoded-chip (W .chip) table bytes, decoded-table (W .chip) table bytes, W .has, le-ltb (length bytes) (bodyLength (W .chip)) (W .long))
+
+pub whole-judged : (number table : ℕ) (bytes : List ℕ) (W : Whole number table bytes) (more : List Check)
+    → first (planChecks (decoded (W .chip) table bytes) ++ more) ≡ first (bodyPlanChecks number table bytes ++ more)
+whole-judged number table bytes W more =
+    rw
+    (W .named, decoded-chip (W .chip) table bytes, decoded-table (W .chip) table bytes, W .has, le-ltb (length bytes) (bodyLength (W .chip)) (W .long))
+
+pub plan-refused : (number table : ℕ) (bytes : List ℕ) {refusal : Refusal} {r : Found} → Refuses refusal r
+    → numberOf refusal ≡ first (bodyChecks number table bytes) → Plans number table bytes r
+plan-refused number table bytes {refusal} R e =
+    record {
+      answer = ap tellsCount (R .answer) ∙ told-refused refusal (bodyChecks number table bytes) _ e;
+      plan = R .plan ∙ when-refused refusal (planOf number table bytes) noPlan e;
+    }
+
+pub plan-accepted : (number table : ℕ) (bytes : List ℕ) (n : ℕ) (plan : Plan) (W : Whole number table bytes) → n ≡ bodyLength (W .chip)
+    → plan ≡ decoded (W .chip) table bytes → Plans number table bytes (record { answer = counted.Of n; plan = plan })
+plan-accepted number table bytes n plan W e d =
+    let none = whole-passed number table bytes W in
+    let used : n ≡ whenKnown (chipOf number) bodyLength 0 = rw (W .named) e in
+    let read : plan ≡ planOf number table bytes = rw (W .named) d in
+    record {
+      answer = told-passed (bodyChecks number table bytes) n none ∙ ap (told (bodyChecks number table bytes)) used;
+      plan = read ∙ when-passed (planOf number table bytes) noPlan none;
+    }
+
+-- what an accepted body says: it lacks nothing, and the plan is the one in it
+pub record Taken (number table : ℕ) (bytes : List ℕ) (n : ℕ) (plan : Plan) : Type 0 where
+  pub whole : Whole number table bytes
+  pub used : n ≡ bodyLength (whole .chip)
+  pub plan-in : plan ≡ decoded (whole .chip) table bytes
+
+pub plan-taken : (number table : ℕ) (bytes : List ℕ) (n : ℕ) (r : Found) → Plans number table bytes r → r .answer ≡ counted.Of n
+    → Taken number table bytes n (r .plan)
+plan-taken number table bytes n r P e =
+    let t = told-of (bodyChecks number table bytes) (whenKnown (chipOf number) bodyLength 0) n (r .answer) e (P .answer) in
+    let W = whole-body number table bytes (t .0) in
+    record {
+      whole = W;
+      used = rw (W .named) at (t .1);
+      plan-in = rw (W .named) at (P .plan ∙ sym (when-passed (planOf number table bytes) noPlan (t .0)));
+    }
 
 -- a refused record
 pub record-refused : (bytes : List ℕ) {refusal : Refusal} {r : Found} → Refuses refusal r
@@ -42,26 +122,43 @@ either false b = refl
 pub mark-wrong : (bytes : List ℕ) → wrongMark bytes ≡ (not (eqb (getD bytes 0 0) 0x43) || not (eqb (getD bytes 1 0) 0x50))
 mark-wrong bytes = either (eqb (getD bytes 0 0) 0x43) (eqb (getD bytes 1 0) 0x50)
 
--- a record that lacks nothing: what is left to check is what its plan is judged by
-pub record Complete (bytes : List ℕ) (chip : Chip) : Type 0 where
+-- a record with its header and its mark is checked by its chip, its table and its body
+pub record Marked (bytes : List ℕ) : Type 0 where
   pub long : 4 ≤ length bytes
-  pub marked : wrongMark bytes ≡ false
-  pub named : chipOf (chipIn bytes) ≡ Known chip
-  pub has : hasTable chip (tableIn bytes) ≡ true
-  pub whole : recordLength chip ≤ length bytes
+  pub mark : wrongMark bytes ≡ false
 
-pub complete-judged : (bytes : List ℕ) (chip : Chip) → Complete bytes chip
-    → first (planChecks (decoded chip (tableIn bytes) (bodyIn bytes))) ≡ first (recordChecks bytes)
-complete-judged bytes chip C =
-    let body-long : bodyLength chip ≤ length (bodyIn bytes) = omega (arith, C .whole, length-drop 4 bytes) in
-    rw
-    (le-ltb (length bytes) 4 (C .long), C .marked, C .named, decoded-chip chip (tableIn bytes) (bodyIn bytes), decoded-table chip (tableIn bytes) (bodyIn bytes), C .has, le-ltb (length (bodyIn bytes)) (bodyLength chip) body-long)
+marked-checks : (bytes : List ℕ) → Marked bytes
+    → first (recordChecks bytes) ≡ first (bodyPlanChecks (chipIn bytes) (tableIn bytes) (bodyIn bytes))
+marked-checks bytes M = rw (le-ltb (length bytes) 4 (M .long), M .mark)
 
-pub record-accepted : (bytes : List ℕ) (chip : Chip) (n : ℕ) (plan : Plan) → Complete bytes chip → first (recordChecks bytes) ≡ 0
-    → n ≡ recordLength chip → plan ≡ decoded chip (tableIn bytes) (bodyIn bytes) → Reads bytes (record { answer = counted.Of n; plan = plan })
-record-accepted bytes chip n plan C none e d =
-    let used : n ≡ whenKnown (chipOf (chipIn bytes)) recordLength 0 = rw (C .named) e in
-    let read : plan ≡ planIn bytes = rw (C .named) d in
+-- one whose body is refused is refused as its body is
+pub record-cut : (bytes : List ℕ) (refusal : Refusal) (r : Found) → Marked bytes → Plans (chipIn bytes) (tableIn bytes) (bodyIn bytes) r
+    → r .answer ≡ counted.Refused refusal → Reads bytes r
+record-cut bytes refusal r M P e =
+    let checks = bodyChecks (chipIn bytes) (tableIn bytes) (bodyIn bytes) in
+    let number : numberOf refusal ≡ first checks = ap (λ (t : ℕ × ℕ). t .0) (ap tellsCount (sym e) ∙ P .answer) in
+    let all : numberOf refusal ≡ first (recordChecks bytes) =
+    number
+    ∙ sym (first-refused checks (orderChecks (planIn bytes)) (omega (arith, numberOf-positive refusal)))
+    ∙ sym (marked-checks bytes M) in
+    record-refused bytes (record { answer = e; plan = P .plan ∙ sym (when-refused refusal (planIn bytes) noPlan number) }) all
+
+-- one that lacks nothing is judged as its plan is
+pub record Complete (bytes : List ℕ) : Type 0 where
+  pub marked : Marked bytes
+  pub whole : Whole (chipIn bytes) (tableIn bytes) (bodyIn bytes)
+
+pub complete-judged : (bytes : List ℕ) (C : Complete bytes)
+    → first (planChecks (decoded (C .whole .chip) (tableIn bytes) (bodyIn bytes))) ≡ first (recordChecks bytes)
+complete-judged bytes C =
+    whole-judged (chipIn bytes) (tableIn bytes) (bodyIn bytes) (C .whole) [] ∙ sym (marked-checks bytes (C .marked))
+
+pub record-accepted : (bytes : List ℕ) (n : ℕ) (plan : Plan) (C : Complete bytes) → first (recordChecks bytes) ≡ 0
+    → n ≡ recordLength (C .whole .chip) → plan ≡ decoded (C .whole .chip) (tableIn bytes) (bodyIn bytes)
+    → Reads bytes (record { answer = counted.Of n; plan = plan })
+record-accepted bytes n plan C none e d =
+    let used : n ≡ whenKnown (chipOf (chipIn bytes)) recordLength 0 = rw (C .whole .named) e in
+    let read : plan ≡ planIn bytes = rw (C .whole .named) d in
     record {
       answer = told-passed (recordChecks bytes) n none ∙ ap (told (recordChecks bytes)) used;
       plan = read ∙ when-passed (planIn bytes) noPlan none;

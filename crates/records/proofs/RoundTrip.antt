@@ -9,7 +9,7 @@ use borrow.Author.Tests.{ltb-false, le-ltb, eqb-true, not-false}
 use lib.Dec.{eqb}
 use lib.ListN.{length, getD, take, drop, length-append, length-drop}
 use lib.Seq.{getD-drop, length-take-le}
-use Rattle.refusal.specs.Checks.{Check, first, told}
+use Rattle.refusal.specs.Checks.{first}
 use Rattle.refusal.proofs.Passed.{all-passed, first-passed, first-front, when-passed, told-passed}
 use Rattle.refusal.specs.declared.Count.{Count}
 use Rattle.refusal.specs.declared.Count.the-variants as counted
@@ -20,44 +20,25 @@ use Rattle.cards.specs.declared.Named.the-variants.{Known}
 use Rattle.cards.specs.Cards.{chipOf, whenKnown}
 use Rattle.cards.proofs.Numbers.{chip-number, chip-known}
 use Rattle.curves.specs.declared.Plan.{Plan}
-use Rattle.plans.specs.Plans.{decoded, planChecks}
+use Rattle.curves.specs.Planned.{planned}
+use Rattle.plans.specs.Plans.{decoded, orderChecks, planChecks}
 use Rattle.plans.proofs.Laws.{accepted, accepted-known}
 use Rattle.records.specs.declared.Found.{Found}
-use Rattle.records.specs.Records.{bodyLength, recordLength, recordOf, encoded, chipIn, tableIn, bodyIn, noPlan, planIn, recordChecks, roomChecks, writeChecks, ownOf, own, Sized, Reads, Writes}
+use Rattle.records.specs.Records.{body, bodyLength, recordLength, recordOf, encoded, chipIn, tableIn, bodyIn, noPlan, planIn, bodyChecks, bodyPlanChecks, recordChecks, roomChecks, writeChecks, ownOf, own, Sized, Reads, Writes}
 use Rattle.records.proofs.Chips.{decoded-chip, decoded-table}
-use Rattle.records.proofs.Answers.{Complete, complete-judged}
-use Rattle.records.proofs.Encoding.{record-of-plan, decode-encode, own-judged, encode-decode}
+use Rattle.records.proofs.Answers.{told-of, whole-body, Complete, complete-judged}
+use Rattle.records.proofs.Encoding.{body-of-plan, record-of-plan, decode-encode, own-judged, encode-decode}
 
 -- a record that is accepted is complete
-pub record Some-chip (bytes : List ℕ) : Type 0 where
-  pub chip : Chip
-  pub complete : Complete bytes chip
-
-pub whole-record : (bytes : List ℕ) → first (recordChecks bytes) ≡ 0 → Some-chip bytes
+pub whole-record : (bytes : List ℕ) → first (recordChecks bytes) ≡ 0 → Complete bytes
 whole-record bytes h =
     let p = all-passed (recordChecks bytes) refl h in
-    let known = chip-known (chipIn bytes) (p .1 .1 .0) in
-    let chip = known .chip in
-    let body-long = ltb-false (length (bodyIn bytes)) (bodyLength chip) (rw (known .named) at (p .1 .1 .1 .1 .0)) in
-    let long = ltb-false (length bytes) 4 (p .0) in
+    let checks = bodyChecks (chipIn bytes) (tableIn bytes) (bodyIn bytes) in
+    let passed : first (bodyPlanChecks (chipIn bytes) (tableIn bytes) (bodyIn bytes)) ≡ 0 = rw (p .0, p .1 .0) at h in
     record {
-      chip = chip;
-      complete = record {
-        long = long;
-        marked = p .1 .0;
-        named = known .named;
-        has = not-false _ (rw (known .named) at (p .1 .1 .1 .0));
-        whole = omega (arith, length-drop 4 bytes);
-      };
+      marked = record { long = ltb-false (length bytes) 4 (p .0); mark = p .1 .0 };
+      whole = whole-body (chipIn bytes) (tableIn bytes) (bodyIn bytes) (first-front checks (orderChecks (planIn bytes)) refl passed);
     }
-
--- what an answer with bytes says of the call
-told-bytes : (checks : List Check) (value n : ℕ) (r : Count) → r ≡ counted.Of n → tellsCount r ≡ told checks value
-    → (first checks ≡ 0) × (n ≡ value)
-told-bytes checks value n r e t =
-    let both : (0, n) ≡ told checks value = ap tellsCount (sym e) ∙ t in
-    let none : first checks ≡ 0 = sym (ap (λ (p : ℕ × ℕ). p .0) both) in
-    (none, ap (λ (p : ℕ × ℕ). p .1) both ∙ sym (when-passed value 0 none))
 
 header-split : (bytes : List ℕ) (m : ℕ) → 4 ≤ length bytes
     → getD bytes 0 0 ∷ (getD bytes 1 0 ∷ (getD bytes 2 0 ∷ (getD bytes 3 0 ∷ take m (drop 4 bytes)))) ≡ take (4 + m) bytes
@@ -70,12 +51,13 @@ header-split (a ∷ (b ∷ (c ∷ (d ∷ l)))) m h =
     ap (λ (k : ℕ). take k (a ∷ (b ∷ (c ∷ (d ∷ l))))) e
 
 -- the record of the plan in a complete record is the front of its bytes
-complete-encoded : (bytes : List ℕ) (chip : Chip) → Complete bytes chip → ((k : ℕ) → getD bytes k 0 < 256)
-    → encoded (decoded chip (tableIn bytes) (bodyIn bytes)) ≡ take (recordLength chip) bytes
-complete-encoded bytes chip C small =
+complete-encoded : (bytes : List ℕ) (C : Complete bytes) → ((k : ℕ) → getD bytes k 0 < 256)
+    → encoded (decoded (C .whole .chip) (tableIn bytes) (bodyIn bytes)) ≡ take (recordLength (C .whole .chip)) bytes
+complete-encoded bytes C small =
+    let chip = C .whole .chip in
     let D = decoded chip (tableIn bytes) (bodyIn bytes) in
-    let marks = and-eq-true-iff (eqb (getD bytes 0 0) 0x43) (eqb (getD bytes 1 0) 0x50) .0 (not-false _ (C .marked)) in
-    let number = chip-number (D .chip) chip (decoded-chip chip (tableIn bytes) (bodyIn bytes)) ∙ sym (chip-number (chipIn bytes) chip (C .named)) in
+    let marks = and-eq-true-iff (eqb (getD bytes 0 0) 0x43) (eqb (getD bytes 1 0) 0x50) .0 (not-false _ (C .marked .mark)) in
+    let number = chip-number (D .chip) chip (decoded-chip chip (tableIn bytes) (bodyIn bytes)) ∙ sym (chip-number (chipIn bytes) chip (C .whole .named)) in
     let bytes-small : (k : ℕ) → getD (bodyIn bytes) k 0 < 256 = λ k. rw (getD-drop 4 bytes k 0) (small (4 + k)) in
     let whole : encoded D ≡ recordOf chip D = rw (decoded-chip chip (tableIn bytes) (bodyIn bytes)) in
     whole
@@ -83,8 +65,8 @@ complete-encoded bytes chip C small =
     ∷ (sym (eqb-true (getD bytes 1 0) 0x50 (marks .1)) i
     ∷ (number i
     ∷ (decoded-table chip (tableIn bytes) (bodyIn bytes) i
-    ∷ encode-decode chip (tableIn bytes) (bodyIn bytes) bytes-small (omega (arith, C .whole, length-drop 4 bytes)) i))))
-    ∙ header-split bytes (bodyLength chip) (C .long)
+    ∷ encode-decode chip (tableIn bytes) (bodyIn bytes) bytes-small (C .whole .long) i))))
+    ∙ header-split bytes (bodyLength chip) (C .marked .long)
 
 -- what an accepted read says: whose record it is, its length, and the record of the plan
 pub record Accepts (bytes : List ℕ) (n : ℕ) (plan : Plan) : Type 0 where
@@ -95,17 +77,16 @@ pub record Accepts (bytes : List ℕ) (n : ℕ) (plan : Plan) : Type 0 where
 pub read-accepts : (bytes : List ℕ) (n : ℕ) (q : Found) → ((k : ℕ) → getD bytes k 0 < 256) → Reads bytes q → q .answer ≡ counted.Of n
     → Accepts bytes n (q .plan)
 read-accepts bytes n q small R e =
-    let t = told-bytes (recordChecks bytes) (whenKnown (chipOf (chipIn bytes)) recordLength 0) n (q .answer) e (R .answer) in
-    let some = whole-record bytes (t .0) in
-    let chip = some .chip in
-    let C = some .complete in
-    let length-is : n ≡ recordLength chip = rw (C .named) at (t .1) in
+    let t = told-of (recordChecks bytes) (whenKnown (chipOf (chipIn bytes)) recordLength 0) n (q .answer) e (R .answer) in
+    let C = whole-record bytes (t .0) in
+    let chip = C .whole .chip in
+    let length-is : n ≡ recordLength chip = rw (C .whole .named) at (t .1) in
     let plan-is : q .plan ≡ decoded chip (tableIn bytes) (bodyIn bytes) =
-    rw (C .named) at (R .plan ∙ sym (when-passed (planIn bytes) noPlan (t .0))) in
+    rw (C .whole .named) at (R .plan ∙ sym (when-passed (planIn bytes) noPlan (t .0))) in
     record {
-      within = omega (arith, length-is, C .whole);
-      judged = ap (λ (p : Plan). first (planChecks p)) plan-is ∙ complete-judged bytes chip C ∙ t .0;
-      record-of = ap encoded plan-is ∙ complete-encoded bytes chip C small ∙ ap (λ (k : ℕ). take k bytes) (sym length-is);
+      within = omega (arith, length-is, C .whole .long, C .marked .long, length-drop 4 bytes);
+      judged = ap (λ (p : Plan). first (planChecks p)) plan-is ∙ complete-judged bytes C ∙ t .0;
+      record-of = ap encoded plan-is ∙ complete-encoded bytes C small ∙ ap (λ (k : ℕ). take k bytes) (sym length-is);
     }
 
 -- A plan has one encoding: bytes that are read as the same plan are the same, as far as they are used
@@ -141,12 +122,16 @@ record-read : (chip : Chip) (plan : Plan) (rest : List ℕ) (q : Found) → Size
     → (q .answer ≡ counted.Of (length (recordOf chip plan))) × (q .plan ≡ ownOf chip plan)
 record-read chip plan rest q S e accepts R =
     let bytes = recordOf chip plan ++ rest in
-    let whole : recordLength chip ≤ length bytes = omega (arith, record-of-plan chip plan S, length-append (recordOf chip plan) rest) in
-    let C : Complete bytes chip =
-    record { long = omega arith; marked = refl; named = e; has = accepted chip plan e accepts .has; whole = whole } in
+    let long : bodyLength chip ≤ length (bodyIn bytes) =
+    omega (arith, body-of-plan chip plan S, length-append (body (planned chip plan)) rest) in
+    let C : Complete bytes =
+    record {
+      marked = record { long = omega arith; mark = refl };
+      whole = record { chip = chip; named = e; has = accepted chip plan e accepts .has; long = long };
+    } in
     let back = decode-encode chip plan rest S e in
     let none : first (recordChecks bytes) ≡ 0 =
-    sym (complete-judged bytes chip C) ∙ ap (λ (p : Plan). first (planChecks p)) back ∙ own-judged chip plan e ∙ accepts in
+    sym (complete-judged bytes C) ∙ ap (λ (p : Plan). first (planChecks p)) back ∙ own-judged chip plan e ∙ accepts in
     let used-bytes : whenKnown (chipOf (plan .chip)) recordLength 0 ≡ length (recordOf chip plan) = rw e (sym (record-of-plan chip plan S)) in
     let plan-in : planIn bytes ≡ ownOf chip plan = rw e back in (
       tellsCount-injective (q .answer) (counted.Of (length (recordOf chip plan)))
@@ -162,7 +147,7 @@ named-read chip plan rest q S e accepts = rw e (record-read chip plan rest q S e
 pub written-read : (plan : Plan) (old : List ℕ) (n : ℕ) (r : Count) (new : List ℕ) (q : Found) → Sized plan
     → Writes plan old r new → r ≡ counted.Of n → Reads new q → (q .answer ≡ counted.Of n) × (q .plan ≡ own plan)
 written-read plan old n r new q S W e R =
-    let t = told-bytes (writeChecks plan old) (length (encoded plan)) n r e (W .answer) in
+    let t = told-of (writeChecks plan old) (length (encoded plan)) n r e (W .answer) in
     let accepts = first-front (planChecks plan) (roomChecks (encoded plan) old) refl (t .0) in
     let known = chip-known (plan .chip) (accepted-known plan accepts) in
     let wrote : new ≡ encoded plan ++ drop (length (encoded plan)) old = W .bytes ∙ sym (when-passed _ old (t .0)) in

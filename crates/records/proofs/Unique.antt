@@ -5,17 +5,23 @@ use mathlib.Core.Path.{_≡_, sym, _∙_}
 use mathlib.Core.List.{List}
 use Rattle.refusal.proofs.Answers.{tellsCount-injective}
 use Rattle.refusal.specs.declared.Count.{Count}
+use Rattle.refusal.specs.Answers.{tellsCount}
+use Rattle.refusal.specs.Checks.{Check}
 use Rattle.curves.specs.declared.Plan.{Plan}
 use Rattle.records.specs.declared.Found.{Found}
-use Rattle.records.specs.Records.{Reads, Writes}
+use Rattle.records.specs.Records.{Plans, Reads, WritesBy}
+
+-- what is found is found once
+found-once : {t : ℕ × ℕ} {p : Plan} {r s : Found} → tellsCount (r .answer) ≡ t → r .plan ≡ p → tellsCount (s .answer) ≡ t → s .plan ≡ p → r ≡ s
+found-once {r = r} {s = s} a p b q =
+    λ i. record { answer = tellsCount-injective (r .answer) (s .answer) (a ∙ sym b) i; plan = (p ∙ sym q) i }
+
+pub plans-unique : {chip table : ℕ} {bytes : List ℕ} {r s : Found} → Plans chip table bytes r → Plans chip table bytes s → r ≡ s
+plans-unique p q = found-once (p .answer) (p .plan) (q .answer) (q .plan)
 
 pub reads-unique : {bytes : List ℕ} {r s : Found} → Reads bytes r → Reads bytes s → r ≡ s
-reads-unique {r = r} {s = s} p q =
-    λ i. record {
-      answer = tellsCount-injective (r .answer) (s .answer) (p .answer ∙ sym (q .answer)) i;
-      plan = (p .plan ∙ sym (q .plan)) i;
-    }
+reads-unique p q = found-once (p .answer) (p .plan) (q .answer) (q .plan)
 
-pub writes-unique : {plan : Plan} {old : List ℕ} {r s : Count} {l m : List ℕ}
-    → Writes plan old r l → Writes plan old s m → (r ≡ s) × (l ≡ m)
+pub writes-unique : {checks : List Check} {plan : Plan} {old : List ℕ} {r s : Count} {l m : List ℕ}
+    → WritesBy checks plan old r l → WritesBy checks plan old s m → (r ≡ s) × (l ≡ m)
 writes-unique {r = r} {s = s} p q = (tellsCount-injective r s (p .answer ∙ sym (q .answer)), p .bytes ∙ sym (q .bytes))

@@ -16,7 +16,7 @@ use Rattle.cards.specs.declared.Chip.the-variants.{Nct7802y, F75373s, Nct80}
 use Rattle.cards.specs.Cards.{chipOf, whenKnown, unknown, noTable}
 use Rattle.curves.specs.declared.Plan.{Plan}
 use Rattle.curves.specs.Planned.{Curve, planned}
-use Rattle.plans.specs.Plans.{zeros, decoded, temperaturesOut, speedsOut, planChecks}
+use Rattle.plans.specs.Plans.{zeros, decoded, orderChecks, planChecks}
 use Rattle.records.specs.declared.Found.{Found}
 
 -- "a two-byte mark 43h 50h before each plan, chip, table"
@@ -67,9 +67,13 @@ noPlan =
       counts = zeros 5;
     }
 
--- the plan in a record's bytes; bytes behind the body do not matter
+-- the plan of a chip, a table and the bytes of a body; bytes behind the body do not matter
+abbrev pub planOf : ℕ → ℕ → List ℕ → Plan
+planOf chip table bytes = whenKnown (chipOf chip) (λ c. decoded c table bytes) noPlan
+
+-- the plan in a record's bytes
 abbrev pub planIn : List ℕ → Plan
-planIn bytes = whenKnown (chipOf (chipIn bytes)) (λ chip. decoded chip (tableIn bytes) (bodyIn bytes)) noPlan
+planIn bytes = planOf (chipIn bytes) (tableIn bytes) (bodyIn bytes)
 
 -- refusal 1: "a plan record has fewer than 4 bytes left"
 abbrev pub headerCutShort : List ℕ → Bool
@@ -80,20 +84,21 @@ abbrev pub wrongMark : List ℕ → Bool
 wrongMark bytes = not (eqb (getD bytes 0 0) 0x43 && eqb (getD bytes 1 0) 0x50)
 
 -- refusal 5: "the record's body is cut short"
-abbrev pub bodyCutShort : List ℕ → Bool
-bodyCutShort bytes = whenKnown (chipOf (chipIn bytes)) (λ chip. ltb (length (bodyIn bytes)) (bodyLength chip)) false
+abbrev pub bodyCutShort : ℕ → List ℕ → Bool
+bodyCutShort chip bytes = whenKnown (chipOf chip) (λ c. ltb (length bytes) (bodyLength c)) false
+
+-- a plan that comes as a chip, a table and a body is a record without its mark: 3, 4, 5 ..
+abbrev pub bodyChecks : ℕ → ℕ → List ℕ → List Check
+bodyChecks chip table bytes = (unknown chip, 3) ∷ (noTable chip table, 4) ∷ (bodyCutShort chip bytes, 5) ∷ []
+
+-- .. then 6, 7
+abbrev pub bodyPlanChecks : ℕ → ℕ → List ℕ → List Check
+bodyPlanChecks chip table bytes = bodyChecks chip table bytes ++ orderChecks (planOf chip table bytes)
 
 -- "Checks run in this order": 1 to 7
 abbrev pub recordChecks : List ℕ → List Check
 recordChecks bytes =
-    (headerCutShort bytes, 1)
-    ∷ (wrongMark bytes, 2)
-    ∷ (unknown (chipIn bytes), 3)
-    ∷ (noTable (chipIn bytes) (tableIn bytes), 4)
-    ∷ (bodyCutShort bytes, 5)
-    ∷ (temperaturesOut (planIn bytes), 6)
-    ∷ (speedsOut (planIn bytes), 7)
-    ∷ []
+    (headerCutShort bytes, 1) ∷ (wrongMark bytes, 2) ∷ bodyPlanChecks (chipIn bytes) (tableIn bytes) (bodyIn bytes)
 
 -- refusal 9: "the output buffer is shorter than the result"
 abbrev pub roomChecks : List ℕ → List ℕ → List Check
@@ -103,15 +108,25 @@ roomChecks result out = (ltb (length out) (length result), 9) ∷ []
 abbrev pub writeChecks : Plan → List ℕ → List Check
 writeChecks plan out = planChecks plan ++ roomChecks (encoded plan) out
 
+-- what `records::plan_from` promises: the plan, and how many of the bytes are its body. They are only read, so they are what they were.
+pub record Plans (chip table : ℕ) (bytes : List ℕ) (r : Found) : Type 0 where
+  pub answer : tellsCount (r .answer) ≡ told (bodyChecks chip table bytes) (whenKnown (chipOf chip) bodyLength 0)
+  pub plan : r .plan ≡ cond (eqb (first (bodyChecks chip table bytes)) 0) (planOf chip table bytes) noPlan
+
 -- what `records::read` promises: "The reader answers the plan and the bytes used". The bytes are only read, so they are what they were.
 pub record Reads (bytes : List ℕ) (r : Found) : Type 0 where
   pub answer : tellsCount (r .answer) ≡ told (recordChecks bytes) (whenKnown (chipOf (chipIn bytes)) recordLength 0)
   pub plan : r .plan ≡ cond (eqb (first (recordChecks bytes)) 0) (planIn bytes) noPlan
 
--- what `records::write` promises: "An output longer than the result keeps its tail", and a refused one holds what it held
-pub record Writes (plan : Plan) (old : List ℕ) (r : Count) (new : List ℕ) : Type 0 where
-  pub answer : tellsCount r ≡ told (writeChecks plan old) (length (encoded plan))
-  pub bytes : new ≡ left (writeChecks plan old) (encoded plan ++ drop (length (encoded plan)) old) old
+-- what a call that writes a plan's record promises, by its own list of checks: "An output longer than the result keeps its tail", and a refused
+-- one holds what it held ..
+pub record WritesBy (checks : List Check) (plan : Plan) (old : List ℕ) (r : Count) (new : List ℕ) : Type 0 where
+  pub answer : tellsCount r ≡ told checks (length (encoded plan))
+  pub bytes : new ≡ left checks (encoded plan ++ drop (length (encoded plan)) old) old
+
+-- .. and so what `records::write` promises
+abbrev pub Writes : Plan → List ℕ → Count → List ℕ → Type 0
+Writes plan old r new = WritesBy (writeChecks plan old) plan old r new
 
 -- "those of the other chip are zero in what is read": what comes back of a plan
 abbrev pub ownOf : Chip → Plan → Plan

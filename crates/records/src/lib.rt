@@ -9,7 +9,7 @@ use refusal::Count;
 use refusal::Outcome;
 use refusal::Refusal;
 ghost use mathlib.Core.Path.{_≡_};
-ghost use Rattle.records.specs.Records.{recordLength, Reads, Refuses, Writes};
+ghost use Rattle.records.specs.Records.{bodyLength, Plans, Reads, Refuses, Writes};
 
 // What is read: the bytes used, and the plan, which is all zeros where the record is refused.
 pub struct Found {
@@ -34,14 +34,34 @@ fn refused(refusal: Refusal) -> Found
     }
 }
 
-// "the bytes used, 13 or 18"; a chip with no fan table has only the header.
-fn record_length(chip: Chip) -> usize
-    ensures { λ r. ⌜ r ≡ recordLength chip ⌝ }
+// "9 bytes for chip 1, 14 for chip 2"; a chip with no fan table has no body.
+fn body_length(chip: Chip) -> usize
+    ensures { λ r. ⌜ r ≡ bodyLength chip ⌝ }
 {
     match chip {
-        Chip::Nct7802y => 13,
-        Chip::F75373s => 18,
-        Chip::Nct80 => 4,
+        Chip::Nct7802y => 9,
+        Chip::F75373s => 14,
+        Chip::Nct80 => 0,
+    }
+}
+
+// The plan of a chip, a table and the body that the bytes begin with, and how many of them it takes.
+pub fn plan_from(chip: u8, table: u8, bytes: &[u8]) -> Found
+    ensures { λ r. ⌜ Plans chip table (now (bytes .entry)) r ⌝ }
+{
+    let Named::Known(known) = cards::chip_of(chip) else {
+        return refused(Refusal::NoSuchChip);
+    };
+    if let Place::Nowhere = cards::table_at(known, table) {
+        return refused(Refusal::NoSuchTable);
+    }
+    let length = body_length(known);
+    if bytes.len() < length {
+        return refused(Refusal::BodyCutShort);
+    }
+    Found {
+        answer: Count::Of(length),
+        plan: plans::plan_of_body(known, table, bytes),
     }
 }
 
@@ -55,23 +75,17 @@ pub fn read(bytes: &[u8]) -> Found
     if (bytes[0] != 0x43) | (bytes[1] != 0x50) {
         return refused(Refusal::WrongMark);
     }
-    let Named::Known(chip) = cards::chip_of(bytes[2]) else {
-        return refused(Refusal::NoSuchChip);
+    let found = plan_from(bytes[2], bytes[3], &bytes[4..]);
+    let answer = found.answer;
+    let Count::Of(length) = answer else {
+        return found;
     };
-    let table = bytes[3];
-    if let Place::Nowhere = cards::table_at(chip, table) {
-        return refused(Refusal::NoSuchTable);
-    }
-    let length = record_length(chip);
-    if bytes.len() < length {
-        return refused(Refusal::BodyCutShort);
-    }
-    let plan = plans::plan_of_body(chip, table, &bytes[4..]);
+    let plan = found.plan;
     if let Outcome::Refused(refusal) = plans::judge(plan) {
         return refused(refusal);
     }
     Found {
-        answer: Count::Of(length),
+        answer: Count::Of(4 + length),
         plan,
     }
 }
@@ -86,7 +100,7 @@ pub fn write(plan: Plan, out: &mut [u8]) -> Count
     if let Outcome::Refused(refusal) = plans::judge(plan) {
         return Count::Refused(refusal);
     }
-    let length = record_length(chip);
+    let length = 4 + body_length(chip);
     if out.len() < length {
         return Count::Refused(Refusal::OutputTooShort);
     }

@@ -5,9 +5,10 @@ use mathlib.Core.Path.{_≡_, sym, _∙_}
 use mathlib.Core.List.{List}
 use Rattle.refusal.proofs.Answers.{tellsCount-injective}
 use Rattle.refusal.specs.declared.Count.{Count}
+use Rattle.refusal.specs.Checks.{Check}
 use Rattle.curves.specs.declared.Plan.{Plan}
-use Rattle.scripts.specs.Scripts.{Scripts}
+use Rattle.scripts.specs.Scripts.{ScriptsBy}
 
-pub scripts-unique : {plan : Plan} {old : List ℕ} {r s : Count} {l m : List ℕ}
-    → Scripts plan old r l → Scripts plan old s m → (r ≡ s) × (l ≡ m)
+pub scripts-unique : {checks : List Check} {plan : Plan} {old : List ℕ} {r s : Count} {l m : List ℕ}
+    → ScriptsBy checks plan old r l → ScriptsBy checks plan old s m → (r ≡ s) × (l ≡ m)
 scripts-unique {r = r} {s = s} p q = (tellsCount-injective r s (p .answer ∙ sym (q .answer)), p .bytes ∙ sym (q .bytes))

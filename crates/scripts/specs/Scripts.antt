@@ -69,7 +69,12 @@ roomForPairs writes out = (ltb (length out) (2 * writes), 9) ∷ []
 abbrev pub scriptChecks : Plan → List ℕ → List Check
 scriptChecks plan out = planChecks plan ++ roomForPairs (length (scriptFor plan)) out
 
--- what `scripts::script` promises: "The answer says how many writes"; "An output longer than the result keeps its tail."
-pub record Scripts (plan : Plan) (old : List ℕ) (r : Count) (new : List ℕ) : Type 0 where
-  pub answer : tellsCount r ≡ told (scriptChecks plan old) (length (scriptFor plan))
-  pub bytes : new ≡ left (scriptChecks plan old) (flat (scriptFor plan) ++ drop (2 * length (scriptFor plan)) old) old
+-- what a call that writes a plan's script promises, by its own list of checks: "The answer says how many writes"; "An output longer than the
+-- result keeps its tail." ..
+pub record ScriptsBy (checks : List Check) (plan : Plan) (old : List ℕ) (r : Count) (new : List ℕ) : Type 0 where
+  pub answer : tellsCount r ≡ told checks (length (scriptFor plan))
+  pub bytes : new ≡ left checks (flat (scriptFor plan) ++ drop (2 * length (scriptFor plan)) old) old
+
+-- .. and so what `scripts::script` promises
+abbrev pub Scripts : Plan → List ℕ → Count → List ℕ → Type 0
+Scripts plan old r new = ScriptsBy (scriptChecks plan old) plan old r new

@@ -1,6 +1,6 @@
 -- `records::write` meets its contract: each answer knows how the tests before it ended, and the places that the loop passed hold the record.
 -- Assumes nothing.
-use Prim.Native.Nat.{ℕ, _-_, _≤_}
+use Prim.Native.Nat.{ℕ, _+_, _-_, _≤_}
 use native.Mathlib.Nat.{zero-add}
 use native.Mathlib.Numerals.{add-one}
 use native.Mathlib.Omega.{arith}
@@ -19,7 +19,7 @@ use Rattle.curves.specs.declared.Plan.{Plan}
 use Rattle.plans.specs.Plans.{planChecks}
 use Rattle.records.specs.Records.{recordOf}
 use Rattle.records.proofs.Owned.{plan-sized}
-use Rattle.records.proofs.Encoding.{record-of-plan}
+use Rattle.records.proofs.Encoding.{record-of-plan, length-short}
 use Rattle.records.proofs.Answers.{write-refused, write-short, write-whole}
 use Rattle.records.proofs.write.Statement.{statement}
 use Rattle.records.proofs.write.Tie as tie
@@ -32,7 +32,7 @@ abbrev μ-loop : tie.MeasureT-loop
 
 -- a plan that is accepted
 abbrev Judged : Type 0
-Judged = tie.After-record-length Inv-loop μ-loop
+Judged = tie.After-body-length Inv-loop μ-loop
 
 abbrev plan : Judged → Plan
 plan c = c .before .before .before .before .before .before .before .before .before .args .plan
@@ -51,10 +51,10 @@ named c =
 judged : (c : Judged) → first (planChecks (plan c)) ≡ 0
 judged c = sym (c .before .before .before .judge .ensures .answer) ∙ ap tells (c .before .enum-told2 .given .1)
 
-long : (c : Judged) → c .record-length .result ≡ length (recordOf (chip c) (plan c))
+long : (c : Judged) → 4 + c .body-length .result ≡ length (recordOf (chip c) (plan c))
 long c =
     let start = c .before .before .before .before .before .before .before .before .before in
-    c .record-length .ensures ∙ sym (record-of-plan (chip c) (plan c) (plan-sized (plan c) _ (start .good .0)))
+    ap (λ (n : ℕ). 4 + n) (c .body-length .ensures) ∙ sym (record-of-plan (chip c) (plan c) (plan-sized (plan c) _ (start .good .0)))
 
 -- the buffer keeps its length
 kept : (c : tie.At-loop Inv-loop μ-loop) → length (c .loop .out) ≡ length (old (c .before .before))
@@ -87,8 +87,11 @@ returns-2 c = write-refused _ _ _ (ap tells (sym (c .before .refusal .given .1))
 enum-told-2 : tie.Need-enum-told-2 Inv-loop μ-loop
 enum-told-2 c = c .match2 .keys2
 
-record-length-requires : tie.Need-record-length-requires Inv-loop μ-loop
-record-length-requires c κs = tt
+body-length-requires : tie.Need-body-length-requires Inv-loop μ-loop
+body-length-requires c κs = tt
+
+add-length : tie.Need-add-length Inv-loop μ-loop
+add-length c = omega (arith, c .body-length .ensures, length-short (chip c))
 
 returns-3 : tie.Need-returns-3 Inv-loop μ-loop
 returns-3 c =
@@ -99,7 +102,7 @@ loop-holds : tie.Need-loop-holds Inv-loop μ-loop
 loop-holds c = (omega arith, refl)
 
 byte-of-requires : tie.Need-byte-of-requires Inv-loop μ-loop
-byte-of-requires c κs = omega (arith, c .before .before .before .record-length .ensures)
+byte-of-requires c κs = omega (arith, c .before .before .before .body-length .ensures)
 
 slice-write-out : tie.Need-slice-write-out Inv-loop μ-loop
 slice-write-out c = omega (arith, kept (c .before .before))
@@ -128,7 +131,7 @@ returns-4 : tie.Need-returns-4 Inv-loop μ-loop
 returns-4 c =
     let l = c .before in
     let j = l .before .before in
-    let all : l .loop .at ≡ j .record-length .result = omega (arith, l .loop .inv .0, c .loop-test .left) in
+    let all : l .loop .at ≡ 4 + j .body-length .result = omega (arith, l .loop .inv .0, c .loop-test .left) in
     write-whole (chip j) (plan j) _ (named j) (judged j) _ _ (long j) (l .before .if1 .left)
     (l .loop .inv .1 ∙ ap (paste (old j) 0 (recordOf (chip j) (plan j))) all)
 
@@ -146,7 +149,8 @@ write-spec =
     enum-known-refusal
     returns-2
     enum-told-2
-    record-length-requires
+    body-length-requires
+    add-length
     returns-3
     loop-holds
     byte-of-requires

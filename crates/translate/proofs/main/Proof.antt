@@ -1,5 +1,5 @@
 -- `main` is safe and ends: what was read lies within the buffer.
--- Assumes nothing.
+-- Assumes what libc promises of `read` and `write`: that neither moves more bytes than its buffer has.
 use Rattle.translate.specs.Inputs.{Holds}
 use Rattle.translate.specs.declared.Input.{Input}
 use lib.Seq.{length-take-le}

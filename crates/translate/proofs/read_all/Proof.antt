@@ -1,5 +1,5 @@
 -- `read_all` meets its contract: each turn fills some of what is left of the buffer, so it ends.
--- Assumes nothing.
+-- Assumes what libc promises of `read`: that it moves no more bytes than its buffer has.
 use lib.ListN.{length}
 use mathlib.Core.Path.{_≡_}
 use Prim.Native.Nat.{_-_, _≤_}

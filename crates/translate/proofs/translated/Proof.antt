@@ -1,5 +1,5 @@
 -- `translated` is safe and ends: what is written lies within the buffer.
--- Assumes nothing.
+-- Assumes what libc promises of `write`: that it moves no more bytes than its buffer has.
 use Prim.Native.Nat.{_≤_}
 use native.Mathlib.Omega.{arith}
 use mathlib.Core.Path.{refl, sym}

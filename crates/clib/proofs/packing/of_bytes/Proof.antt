@@ -1,8 +1,7 @@
 -- `packing::of_bytes` meets its contract: each arm packs what its case tells.
 -- Assumes nothing.
 use Rattle.readings.specs.declared.Bytes.{Bytes}
-use Rattle.clib.specs.Packed.{packed, packsBytes}
-use Prim.Native.Nat.{ℕ}
+use Rattle.clib.specs.Packed.{packsBytes}
 use mathlib.Core.Path.{sym, ap, _∙_}
 use borrow.Author.Needs.{needs}
 use Rattle.clib.proofs.packing.of_bytes.Statement.{statement}
@@ -29,19 +28,14 @@ packed-requires c κs = search needs
 enum-known-bytes-2 : tie.Need-enum-known-bytes-2
 enum-known-bytes-2 c = search needs
 
-number-requires : tie.Need-number-requires
-number-requires c κs = search needs
-
-packed-requires-2 : tie.Need-packed-requires-2
-packed-requires-2 c κs = search needs
+refused-requires : tie.Need-refused-requires
+refused-requires c κs = search needs
 
 returns : tie.Need-returns
 returns c = c .packed .ensures ∙ sym (ap (λ (s : Bytes). packsBytes s) (c .before .before .bytes .given .1))
 
 returns-2 : tie.Need-returns-2
-returns-2 c =
-    c .packed2 .ensures ∙ ap (λ (n : ℕ). packed n 0) (c .before .number .ensures .answer)
-    ∙ sym (ap (λ (s : Bytes). packsBytes s) (c .before .before .before .bytes2 .given .1))
+returns-2 c = c .refused .ensures ∙ sym (ap (λ (s : Bytes). packsBytes s) (c .before .before .bytes2 .given .1))
 
 pub of-bytes-spec : {M : Type 1} → statement M
 of-bytes-spec =
@@ -54,7 +48,6 @@ of-bytes-spec =
     add-packed
     packed-requires
     enum-known-bytes-2
-    number-requires
-    packed-requires-2
+    refused-requires
     returns
     returns-2)

@@ -3,8 +3,7 @@
 use native.Mathlib.Omega.{arith}
 use Rattle.refusal.specs.declared.Count.{Count}
 use Rattle.refusal.specs.Answers.{tellsCount}
-use Rattle.clib.specs.Packed.{packed, packsCount}
-use Prim.Native.Nat.{ℕ}
+use Rattle.clib.specs.Packed.{packsCount}
 use mathlib.Core.Path.{sym, ap, _∙_}
 use borrow.Author.Needs.{needs}
 use Rattle.clib.proofs.packing.of_count.Statement.{statement}
@@ -19,19 +18,14 @@ packed-requires c κs = omega (arith, sym (ap (λ (s : Count). tellsCount s .1) 
 enum-known-count-2 : tie.Need-enum-known-count-2
 enum-known-count-2 c = search needs
 
-number-requires : tie.Need-number-requires
-number-requires c κs = search needs
-
-packed-requires-2 : tie.Need-packed-requires-2
-packed-requires-2 c κs = search needs
+refused-requires : tie.Need-refused-requires
+refused-requires c κs = search needs
 
 returns : tie.Need-returns
 returns c = c .packed .ensures ∙ sym (ap (λ (s : Count). packsCount s) (c .before .before .count .given .1))
 
 returns-2 : tie.Need-returns-2
-returns-2 c =
-    c .packed2 .ensures ∙ ap (λ (n : ℕ). packed n 0) (c .before .number .ensures .answer)
-    ∙ sym (ap (λ (s : Count). packsCount s) (c .before .before .before .count2 .given .1))
+returns-2 c = c .refused .ensures ∙ sym (ap (λ (s : Count). packsCount s) (c .before .before .count2 .given .1))
 
 pub of-count-spec : {M : Type 1} → statement M
 of-count-spec =
@@ -40,7 +34,6 @@ of-count-spec =
     enum-known-count
     packed-requires
     enum-known-count-2
-    number-requires
-    packed-requires-2
+    refused-requires
     returns
     returns-2)

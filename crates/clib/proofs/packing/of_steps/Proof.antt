@@ -26,11 +26,8 @@ packed-requires c κs = search needs
 enum-known-steps-2 : tie.Need-enum-known-steps-2
 enum-known-steps-2 c = search needs
 
-number-requires : tie.Need-number-requires
-number-requires c κs = search needs
-
-packed-requires-2 : tie.Need-packed-requires-2
-packed-requires-2 c κs = search needs
+refused-requires : tie.Need-refused-requires
+refused-requires c κs = search needs
 
 returns : tie.Need-returns
 returns c =
@@ -39,9 +36,7 @@ returns c =
     ∙ sym (ap (λ (s : Steps). packsSteps s) (c .before .before .before .steps .given .1))
 
 returns-2 : tie.Need-returns-2
-returns-2 c =
-    c .packed2 .ensures ∙ ap (λ (n : ℕ). packed n 0) (c .before .number .ensures .answer)
-    ∙ sym (ap (λ (s : Steps). packsSteps s) (c .before .before .before .steps2 .given .1))
+returns-2 c = c .refused .ensures ∙ sym (ap (λ (s : Steps). packsSteps s) (c .before .before .steps2 .given .1))
 
 pub of-steps-spec : {M : Type 1} → statement M
 of-steps-spec =
@@ -52,7 +47,6 @@ of-steps-spec =
     cast-packed
     packed-requires
     enum-known-steps-2
-    number-requires
-    packed-requires-2
+    refused-requires
     returns
     returns-2)

@@ -16,9 +16,8 @@ use Rattle.clib.proofs.packing.of_used.Statement.{statement}
 use Rattle.clib.proofs.packing.of_used.Tie as tie
 
 -- a refused record packs no value
-used-refused : {a : Count} {r : Refusal} {n : ℕ} (chip table : ℕ) → a ≡ counted.Refused r → n ≡ numberOf r → packed n 0 ≡ packsUsed a chip table
-used-refused {a} {r} {n} chip table e q =
-    rw (ap tellsCount e, q, ne-eqb (numberOf r) 0 (λ z. omega (arith, numberOf-positive r)))
+used-refused : {a : Count} {r : Refusal} (chip table : ℕ) → a ≡ counted.Refused r → packed (numberOf r) 0 ≡ packsUsed a chip table
+used-refused {a} {r} chip table e = rw (ap tellsCount e, ne-eqb (numberOf r) 0 (λ z. omega (arith, numberOf-positive r)))
 
 enum-known-used : tie.Need-enum-known-used
 enum-known-used c = search needs
@@ -41,11 +40,8 @@ packed-requires c κs = omega (arith, sym (ap (λ (s : Count). tellsCount s .1) 
 enum-known-used-2 : tie.Need-enum-known-used-2
 enum-known-used-2 c = search needs
 
-number-requires : tie.Need-number-requires
-number-requires c κs = search needs
-
-packed-requires-2 : tie.Need-packed-requires-2
-packed-requires-2 c κs = search needs
+refused-requires : tie.Need-refused-requires
+refused-requires c κs = search needs
 
 returns : tie.Need-returns
 returns c =
@@ -54,8 +50,8 @@ returns c =
 
 returns-2 : tie.Need-returns-2
 returns-2 c =
-    let a = c .before .before .before .before .before .args in
-    c .packed2 .ensures ∙ used-refused (a .chip) (a .table) (c .before .before .before .used2 .given .1) (c .before .number .ensures .answer)
+    let a = c .before .before .before .before .args in
+    c .refused .ensures ∙ used-refused (a .chip) (a .table) (c .before .before .used2 .given .1)
 
 pub of-used-spec : {M : Type 1} → statement M
 of-used-spec =
@@ -68,7 +64,6 @@ of-used-spec =
     add-packed-2
     packed-requires
     enum-known-used-2
-    number-requires
-    packed-requires-2
+    refused-requires
     returns
     returns-2)

@@ -1,7 +1,7 @@
--- `record_length` meets its contract: each arm answers for its chip.
+-- `body_length` meets its contract: each arm answers for its chip.
 -- Assumes nothing.
-use Rattle.records.proofs.record_length.Statement.{statement}
-use Rattle.records.proofs.record_length.Tie as tie
+use Rattle.records.proofs.body_length.Statement.{statement}
+use Rattle.records.proofs.body_length.Tie as tie
 
 enum-told : tie.Need-enum-told
 enum-told c = c .match .keys1
@@ -21,6 +21,6 @@ returns-2 c = rw (c .enum-told2 .given .1)
 returns-3 : tie.Need-returns-3
 returns-3 c = rw (c .enum-told3 .given .1)
 
-pub record-length-spec : {M : Type 1} → statement M
-record-length-spec =
+pub body-length-spec : {M : Type 1} → statement M
+body-length-spec =
     tie.close (tie.spec enum-told enum-told-2 enum-told-3 returns returns-2 returns-3)

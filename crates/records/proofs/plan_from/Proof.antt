@@ -1,0 +1,115 @@
+-- `records::plan_from` meets its contract: each answer knows how the tests before it ended.
+-- Assumes nothing.
+use Prim.Native.Nat.{ℕ, _<_}
+use native.Mathlib.Omega.{arith}
+use mathlib.Core.Path.{_≡_, sym, _∙_}
+use mathlib.Core.Bool.{true}
+use mathlib.Core.List.{List}
+use borrow.Author.Needs.{needs}
+use borrow.Author.Tests.{lt-ltb}
+use lib.ListN.{length}
+use Rattle.cards.specs.declared.Chip.{Chip}
+use Rattle.cards.specs.declared.Named.the-variants.{Known}
+use Rattle.cards.specs.Cards.{chipOf, hasTable}
+use Rattle.cards.proofs.Tables.{place-found, place-missed}
+use Rattle.records.specs.Records.{bodyLength}
+use Rattle.records.proofs.Answers.{Whole, plan-refused, plan-accepted}
+use Rattle.records.proofs.plan_from.Statement.{statement}
+use Rattle.records.proofs.plan_from.Tie as tie
+
+-- a known chip
+abbrev start : tie.After-known-told → tie.Start
+start c = c .before .before .before .before .before
+
+abbrev chip : tie.After-known-told → Chip
+chip c = c .before .known .given .0 .0
+
+named : (c : tie.After-known-told) → chipOf (start c .args .chip) ≡ Known (chip c)
+named c = sym (c .before .before .before .chip-of .ensures .answer) ∙ c .before .known .given .1
+
+-- that has the table
+abbrev known : tie.After-body-length → tie.After-known-told
+known c = c .before .before .before .before
+
+abbrev bytes : tie.After-body-length → List ℕ
+bytes c = start (known c) .args .bytes .now
+
+has : (c : tie.After-body-length) → hasTable (chip (known c)) (start (known c) .args .table) ≡ true
+has c = place-found _ (c .before .before .before .table-at .ensures) (c .before .enum-told3 .given .1) .0
+
+chip-of-requires : tie.Need-chip-of-requires
+chip-of-requires c κs = search needs
+
+enum-known-known : tie.Need-enum-known-known
+enum-known-known c = search needs
+
+enum-told : tie.Need-enum-told
+enum-told c = search needs
+
+refused-requires : tie.Need-refused-requires
+refused-requires c κs = search needs
+
+returns : tie.Need-returns
+returns c =
+    let e = sym (c .before .before .before .chip-of .ensures .answer) ∙ c .before .enum-told .given .1 in
+    plan-refused _ _ _ (c .refused .ensures) (rw e)
+
+table-at-requires : tie.Need-table-at-requires
+table-at-requires c κs = search needs
+
+enum-told-2 : tie.Need-enum-told-2
+enum-told-2 c = search needs
+
+refused-requires-2 : tie.Need-refused-requires-2
+refused-requires-2 c κs = search needs
+
+returns-2 : tie.Need-returns-2
+returns-2 c =
+    let t = c .before .before .before in
+    let missed = place-missed (t .table-at .ensures) (c .before .enum-told2 .given .1) in
+    plan-refused _ _ _ (c .refused2 .ensures) (rw (named (t .before), missed))
+
+enum-told-3 : tie.Need-enum-told-3
+enum-told-3 c = search needs
+
+body-length-requires : tie.Need-body-length-requires
+body-length-requires c κs = search needs
+
+refused-requires-3 : tie.Need-refused-requires-3
+refused-requires-3 c κs = search needs
+
+returns-3 : tie.Need-returns-3
+returns-3 c =
+    let b = c .before .before in
+    let short : length (bytes b) < bodyLength (chip (known b)) = omega (arith, c .before .if1 .taken, b .body-length .ensures) in
+    plan-refused _ _ _ (c .refused3 .ensures) (rw (named (known b), has b, lt-ltb _ _ short))
+
+plan-of-body-requires : tie.Need-plan-of-body-requires
+plan-of-body-requires c κs = search needs
+
+returns-4 : tie.Need-returns-4
+returns-4 c =
+    let b = c .before .before in
+    let whole : Whole (start (known b) .args .chip) (start (known b) .args .table) (bytes b) =
+    record { chip = chip (known b); named = named (known b); has = has b; long = omega (arith, c .before .if1 .left, b .body-length .ensures) } in
+    plan-accepted _ _ _ _ _ whole (b .body-length .ensures) (c .plan-of-body .ensures .answer)
+
+pub plan-from-spec : {M : Type 1} → statement M
+plan-from-spec =
+    tie.close
+    (tie.spec
+    chip-of-requires
+    enum-known-known
+    enum-told
+    refused-requires
+    returns
+    table-at-requires
+    enum-told-2
+    refused-requires-2
+    returns-2
+    enum-told-3
+    body-length-requires
+    refused-requires-3
+    returns-3
+    plan-of-body-requires
+    returns-4)
