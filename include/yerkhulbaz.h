@@ -30,8 +30,8 @@
  *   chip 2, tables 1 and 2, 14 bytes: B1 B2 B3 B4 then C1 to C5, high byte first
  *       temperatures are degrees 0 to 255, counts 0 to 65,535; in the image from A0h, B0h
  *   chip 3 has no fan table.
- * Pass exactly as many: missing body bytes count as zero, further ones are ignored. A plan is in
- * order when
+ * A shorter body is refused with 5; bytes past these are ignored, as those behind a record are.
+ * A plan is in order when
  *   chip 1: T1 < T2 < T3 < T4, T4 at most critical (else 6); FL1 to FL4 never fall (else 7)
  *   chip 2: B1 > B2 > B3 > B4 (else 6); C1 to C5 never fall (else 7).
  * More duty is faster; a smaller count is faster, 0000h is full speed and FFFFh is off.
@@ -53,7 +53,7 @@ enum {
     YK_REFUSED_MARK = 2,         /* its mark is not 43h 50h */
     YK_REFUSED_CHIP = 3,         /* the chip number is not 1, 2 or 3 */
     YK_REFUSED_TABLE = 4,        /* the chip has no such fan table */
-    YK_REFUSED_BODY = 5,         /* the record's body is cut short */
+    YK_REFUSED_BODY = 5,         /* the body of a record or plan is cut short */
     YK_REFUSED_TEMPERATURES = 6, /* temperatures of the plan are out of order */
     YK_REFUSED_SPEEDS = 7,       /* duties or counts of the plan are out of order */
     YK_REFUSED_IMAGE = 8,        /* a register image is not 256 bytes long */
@@ -117,7 +117,7 @@ static inline uint8_t yk_record_table(uint64_t answer) {
     return (uint8_t)((yk_value(answer) >> 16) & 0xFFu);
 }
 
-/* yk_sample and yk_acknowledge: hot, pending and the output after the call, each 0 or 1. */
+/* yk_sample, yk_run and yk_acknowledge: hot, pending and the output after the call, each 0 or 1. */
 static inline uint8_t yk_facts_hot(uint64_t answer) {
     return (uint8_t)(yk_value(answer) & 1u);
 }
@@ -204,6 +204,16 @@ uint64_t yk_microvolts(uint16_t word);
 uint64_t yk_sample(uint8_t behaviour, uint8_t facts, int16_t steps, int8_t high, int8_t hysteresis);
 
 /*
+ * Recorded samples in turn, each as yk_sample would take it with the same two limits. A sample
+ * that is no 12-bit step count changes neither fact, and the run goes on. samples_length is the
+ * number of samples, not of bytes; samples are only read.
+ * Refusals: none. Value: as of yk_sample, after the last sample; with no sample the watch as it
+ * was.
+ */
+uint64_t yk_run(uint8_t behaviour, uint8_t facts, const int16_t *samples, size_t samples_length,
+                int8_t high, int8_t hysteresis);
+
+/*
  * Turns pending off and keeps hot.
  * Refusals: none. Value: as of yk_sample.
  */
@@ -222,7 +232,7 @@ uint64_t yk_read_record(const uint8_t *bytes, size_t length);
 
 /*
  * Writes a plan's record.
- * Refusals: 3, 4, 6, 7, 9. Value: the length, 13 or 18. Afterwards: the record stands in
+ * Refusals: 3, 4, 5, 6, 7, 9. Value: the length, 13 or 18. Afterwards: the record stands in
  * out[0] to out[length - 1]; the bytes of out past it are as they were.
  */
 uint64_t yk_write_record(uint8_t chip, uint8_t table, const uint8_t *body, size_t body_length,
@@ -234,7 +244,7 @@ uint64_t yk_write_record(uint8_t chip, uint8_t table, const uint8_t *body, size_
  * The speed that a plan asks for at temperature t, in order or not: the duty (0 to 255) for chip
  * 1, the count (0 to 65,535) for chip 2. t is one byte, signed for chip 1 (pass (uint8_t)degrees)
  * and unsigned for chip 2.
- * Refusals: 3, 4. Value: the duty or count.
+ * Refusals: 3, 4, 5. Value: the duty or count.
  */
 uint64_t yk_asked_of_plan(uint8_t chip, uint8_t table, const uint8_t *body, size_t body_length,
                           uint8_t t);
@@ -253,8 +263,8 @@ uint64_t yk_asked_of_image(uint8_t chip, uint8_t table, const uint8_t *image, si
  * First every duty goes to FFh (chip 1) or every count byte to 00h (chip 2), then the
  * temperatures are written, then the speeds as planned. So a table that is loaded in part never
  * asks for less than the slower of the old table and the plan.
- * Refusals: 3, 4, 6, 7, 9. Value: the number of writes, 13 or 24. Afterwards: write k (from 0) is
- * out[2 * k], out[2 * k + 1]; the bytes of out past the script are as they were.
+ * Refusals: 3, 4, 5, 6, 7, 9. Value: the number of writes, 13 or 24. Afterwards: write k (from 0)
+ * is out[2 * k], out[2 * k + 1]; the bytes of out past the script are as they were.
  */
 uint64_t yk_script(uint8_t chip, uint8_t table, const uint8_t *body, size_t body_length,
                    uint8_t *out, size_t out_length);
@@ -263,8 +273,8 @@ uint64_t yk_script(uint8_t chip, uint8_t table, const uint8_t *body, size_t body
  * Plays the first count writes of a plan's script on an image, as yk_write would make them; a
  * count above the script's length means all. Identity is confirmed once, before the first write.
  * Every play begins with the script's first write: after a cut, play the whole script again.
- * Refusals: 3, 4, 6, 7, 8, 10. Value: the number of writes made. Afterwards: outside of the plan's
- * table the image is as it was; after a whole script the table holds the plan's body.
+ * Refusals: 3, 4, 5, 6, 7, 8, 10. Value: the number of writes made. Afterwards: outside of the
+ * plan's table the image is as it was; after a whole script the table holds the plan's body.
  */
 uint64_t yk_play(uint8_t chip, uint8_t table, const uint8_t *body, size_t body_length,
                  uint8_t *image, size_t image_length, size_t count);
