@@ -3,7 +3,7 @@
 
 use crate::driver::{hold, stop};
 use crate::fence::{Fence, Side};
-use crate::library::{raw_acknowledge, raw_sample, Library};
+use crate::library::{raw_acknowledge, raw_run, raw_sample, Library};
 use crate::model::{self, Plan, Watch};
 use crate::random::{Draft, Random};
 use crate::subject::Subject;
@@ -45,10 +45,12 @@ pub fn run(seed: u64, rounds: usize) -> u64 {
         let side = if round % 2 == 0 { Side::Upper } else { Side::Lower };
         images(&mut g, r, side);
         plans(&mut g, r, side);
+        runs(&mut g, r, side);
         if round % 40 < 2 {
             texts(&mut g, r, side);
         }
     }
+    bodies(&mut g, r);
     longest(&mut g, r);
     g.calls + watches()
 }
@@ -78,11 +80,32 @@ fn images(g: &mut Ground, r: &mut Random, side: Side) {
 }
 
 fn plans(g: &mut Ground, r: &mut Random, side: Side) {
+    let record = r.record();
+    g.call("read_record", side, &record, &[], |from, _| model::read_record(from), |from, _| Library.read_record(from));
     let draft = r.plan();
+    with_body(g, r, side, &draft);
+}
+
+/// Bodies of every length to 20, and long ones whose length would be short in one byte or two; of
+/// every table there is and of some that are none. Nothing is read past a body that is cut short.
+fn bodies(g: &mut Ground, r: &mut Random) {
+    for chip in 0..=4 {
+        for table in 0..=4 {
+            for length in (0..=20).chain([255, 256, 264, 265, 269, 270, 65535, 65536]) {
+                let mut body = r.ordered(chip);
+                body.resize(length, 0xA7);
+                let draft = Draft { chip, table, body };
+                with_body(g, r, Side::Upper, &draft);
+                with_body(g, r, Side::Lower, &draft);
+            }
+        }
+    }
+}
+
+/// Every call that takes a body.
+fn with_body(g: &mut Ground, r: &mut Random, side: Side, draft: &Draft) {
     let (chip, table, t, count) = (draft.chip, draft.table, r.byte(), r.below(27));
     let s = &Library;
-    let record = r.record();
-    g.call("read_record", side, &record, &[], |from, _| model::read_record(from), |from, _| s.read_record(from));
     g.call(
         "asked_of_plan", side, &draft.body, &[],
         |body, _| model::asked_of_plan(Plan { chip, table, body }, t),
@@ -145,17 +168,51 @@ fn longest(g: &mut Ground, r: &mut Random) {
     }
 }
 
+/// Of the facts only bits 0 and 1 count.
+fn watch_of(behaviour: u8, facts: u8) -> Watch {
+    Watch { behaviour, hot: facts & 1 != 0, pending: facts & 2 != 0 }
+}
+
+/// An answer: refusal + 256 * (hot + 2 * pending + 4 * output).
+fn packed(refusal: u32, watch: Watch) -> u64 {
+    let value = u64::from(watch.hot) + 2 * u64::from(watch.pending) + 4 * u64::from(model::output(watch));
+    u64::from(refusal) + 256 * value
+}
+
+/// A run on fenced samples, from any bits in the facts, and the same samples one by one.
+fn runs(g: &mut Ground, r: &mut Random, side: Side) {
+    let behaviour = if r.once_in(6) { r.byte() } else { [0, 1, 2, 3, 255][r.below(5)] };
+    let facts = r.byte();
+    let (high, low) = r.limits();
+    let samples = r.samples((high, low));
+    let want = packed(0, model::run(watch_of(behaviour, facts), &samples, high, low));
+    let bytes: Vec<u8> = samples.iter().flat_map(|steps| steps.to_ne_bytes()).collect();
+    g.call(
+        "run", side, &bytes, &[],
+        |_, _| want,
+        |from, _| {
+            // SAFETY: any two bytes are a sample; `align_to` cuts off those that don't stand as one.
+            let (before, lent, after) = unsafe { from.align_to::<i16>() };
+            assert!(before.is_empty() && after.is_empty(), "a fence is at an even address");
+            raw_run(behaviour, facts, lent, high, low)
+        },
+    );
+    // The first sample, which is refused, gives the watch as it was.
+    let in_turn = [2048].iter().chain(&samples).fold(256 * u64::from(facts), |answer, steps| {
+        raw_sample(behaviour, (answer >> 8) as u8, *steps, high, low) & !0xFF
+    });
+    let inputs = (behaviour, facts, &samples, high, low);
+    hold(in_turn == want, "a run is its samples in turn", &inputs);
+    g.calls += 1 + samples.len() as u64;
+}
+
 /// Behaviour "0 default, 1 one-time, any other comparator"; of the facts only bits 0 and 1 count.
 /// Every behaviour with every byte of facts, at samples that do all there is to do.
 fn watches() -> u64 {
     let mut calls = 0;
-    let packed = |refusal: u32, watch: Watch| {
-        let value = u64::from(watch.hot) + 2 * u64::from(watch.pending) + 4 * u64::from(model::output(watch));
-        u64::from(refusal) + 256 * value
-    };
     for behaviour in 0..=255 {
         for facts in 0..=255u8 {
-            let watch = Watch { behaviour, hot: facts & 1 != 0, pending: facts & 2 != 0 };
+            let watch = watch_of(behaviour, facts);
             let want = packed(0, model::acknowledge(watch));
             let got = raw_acknowledge(behaviour, facts);
             if got != want {

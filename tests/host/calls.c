@@ -26,8 +26,11 @@ static const char text[] = "plan 1 chip 1 table 3 writes 13\n"
                            "A5 FF\nA6 FF\nA7 FF\nA8 FF\nA0 1E\nA1 28\nA2 32\nA3 37\nA4 3C\n"
                            "A5 8C\nA6 AA\nA7 C8\nA8 E6\nend 1\n";
 
+/* 81 degrees, no 12-bit step count, 75 degrees, a step below. */
+static const int16_t samples[4] = {1296, 2048, 1200, 1199};
+
 int main(void) {
-    uint8_t image[YK_IMAGE], out[256];
+    uint8_t image[YK_IMAGE], kept[YK_IMAGE], out[YK_IMAGE];
     const uint8_t *body = record + 4;
     uint64_t answer;
     size_t length = sizeof text - 1;
@@ -69,6 +72,13 @@ int main(void) {
     same("exactly 75", yk_sample(YK_COMPARATOR, 1, 1200, 80, 75), packed(0, 5));
     same("below 75", yk_sample(YK_COMPARATOR, 1, 1199, 80, 75), packed(0, 0));
 
+    /* The samples in turn: "exactly 75 doesn't turn it off"; no sample, the watch as it was. */
+    same("run to 75", yk_run(YK_DEFAULT, 0, samples, 3, 80, 75), packed(0, 7));
+    same("run to below 75", yk_run(YK_DEFAULT, 0, samples, 4, 80, 75), packed(0, 6));
+    same("run in one-time", yk_run(YK_ONE_TIME, 1, samples, 3, 80, 75), packed(0, 1));
+    same("run in comparator", yk_run(YK_COMPARATOR, 0, samples, 3, 80, 75), packed(0, 5));
+    same("run of none", yk_run(YK_DEFAULT, 1, samples, 0, 80, 75), packed(0, 1));
+
     /* The example: read, written again, asked, as script, played, translated. */
     same("record", yk_read_record(record, sizeof record), packed(0, 13 + 256 * 1 + 65536 * 3));
     same("cut record", yk_read_record(record, 12), YK_REFUSED_BODY);
@@ -85,6 +95,15 @@ int main(void) {
     same("play", yk_play(1, 3, body, YK_BODY_CHIP_1, image, YK_IMAGE, 14), packed(0, 13));
     same("asked at 53", yk_asked_of_image(1, 3, image, YK_IMAGE, 53), packed(0, 218));
     same("the table", (uint64_t)memcmp(image + 0xA0, body, YK_BODY_CHIP_1), 0);
+    /* Its body without the last byte: 5, and the buffers are as they were. */
+    memcpy(kept, image, YK_IMAGE);
+    memcpy(out, image, YK_IMAGE);
+    same("record of a cut body", yk_write_record(1, 3, body, 8, out, YK_IMAGE), YK_REFUSED_BODY);
+    same("its script", yk_script(1, 3, body, 8, out, YK_IMAGE), YK_REFUSED_BODY);
+    same("its play", yk_play(1, 3, body, 8, image, YK_IMAGE, 13), YK_REFUSED_BODY);
+    same("what it asks", yk_asked_of_plan(1, 3, body, 8, 45), YK_REFUSED_BODY);
+    same("the output", (uint64_t)memcmp(out, kept, YK_IMAGE), 0);
+    same("the image", (uint64_t)memcmp(image, kept, YK_IMAGE), 0);
     same("text", yk_translate(record, sizeof record, out, sizeof out), packed(0, length));
     same("its bytes", (uint64_t)memcmp(out, text, length), 0);
     same("short text", yk_translate(record, sizeof record, out, length - 1), YK_REFUSED_OUTPUT);

@@ -6,15 +6,15 @@ use crate::subject::Subject;
 use std::fmt::{Debug, Formatter, Result};
 use std::panic::{catch_unwind, AssertUnwindSafe};
 
-pub const NAMES: [&str; 18] = [
+pub const NAMES: [&str; 19] = [
     "write", "read", "reset", "identity", "steps_of", "bytes_of", "microvolts", "sample",
     "acknowledge", "output", "judge", "asked_of_plan", "asked_of_image", "read_record",
-    "write_record", "script", "play", "translate",
+    "write_record", "script", "play", "translate", "run",
 ];
 
 pub struct Driver<'a, S: Subject> {
     subject: &'a S,
-    pub calls: [u64; 18],
+    pub calls: [u64; 19],
 }
 
 /// Prints what is known and ends the run.
@@ -47,7 +47,7 @@ impl Debug for Lent<'_> {
 
 impl<'a, S: Subject> Driver<'a, S> {
     pub fn new(subject: &'a S) -> Self {
-        Driver { subject, calls: [0; 18] }
+        Driver { subject, calls: [0; 19] }
     }
 
     pub fn total(&self) -> u64 {
@@ -154,6 +154,13 @@ impl<'a, S: Subject> Driver<'a, S> {
             (refusal, (after, output))
         });
         (answer.0, answer.1 .0)
+    }
+
+    pub fn run(&mut self, watch: Watch, samples: &[i16], high: i8, hysteresis: i8) -> Watch {
+        let after = model::run(watch, samples, high, hysteresis);
+        let want = (after, model::output(after));
+        let inputs = (watch, samples.len(), &samples[..samples.len().min(320)], high, hysteresis);
+        self.agree(18, &inputs, want, |s| s.run(watch, samples, high, hysteresis)).0
     }
 
     pub fn acknowledge(&mut self, watch: Watch) -> Watch {

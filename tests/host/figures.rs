@@ -21,8 +21,10 @@ pub fn run<S: Subject>(d: &mut Driver<S>) {
     identities(d);
     readings(d);
     watches(d);
+    runs(d);
     speeds(d);
     records(d);
+    cut_bodies(d);
     half_loaded(d);
 }
 
@@ -143,6 +145,63 @@ fn watches<S: Subject>(d: &mut Driver<S>) {
     }
 }
 
+/// The samples of a run, hot after the last one, and pending in default, one-time and comparator.
+type End = (&'static [i16], bool, [bool; 3]);
+
+/// Runs at limits of 80 and 75 degrees, 1280 and 1200 steps.
+fn runs<S: Subject>(d: &mut Driver<S>) {
+    let (none, both) = ([false; 3], [true, true, false]);
+    let from_new: [End; 13] = [
+        (&[], false, none),
+        // Ending above, between and below the limits.
+        (&[1248, 1281], true, both),
+        (&[1248], false, none),
+        (&[1296, 1248], true, both),
+        (&[1296, 1199], false, both),
+        // "Exactly 80 doesn't turn hot on; exactly 75 doesn't turn it off."
+        (&[1248, 1280], false, none),
+        (&[1296, 1280], true, both),
+        (&[1199, 1200], false, none),
+        (&[1296, 1200], true, both),
+        // "A refused sample changes neither fact", and the run goes on.
+        (&[2048, -2049, 32767, -32768], false, none),
+        (&[2048, 1296], true, both),
+        (&[1296, -2049], true, both),
+        (&[1296, 2048, 1199], false, both),
+    ];
+    // Hot and acknowledged, as in the paper's figure: 78 then turns pending on in default alone.
+    let only_default = [true, false, false];
+    let from_hot: [End; 9] = [
+        (&[], true, none),
+        (&[2048], true, none),
+        (&[1248], true, only_default),
+        (&[1280], true, only_default),
+        (&[1200], true, only_default),
+        (&[1199], false, none),
+        (&[1199, 1280], false, none),
+        (&[1199, 1281], true, both),
+        (&[1199, 1281, 1199], false, both),
+    ];
+    // The limits the other way round: not above 75 is below 80, so nothing keeps hot.
+    let turned: [End; 3] = [
+        (&[1201], true, both),
+        (&[1201, 1279], true, both),
+        (&[1201, 1200], false, both),
+    ];
+    for behaviour in 0..3 {
+        let mut ends = |hot: bool, (high, low): (i8, i8), figures: &[End]| {
+            for &(samples, hot_then, pending) in figures {
+                let after = d.run(Watch { behaviour, hot, pending: false }, samples, high, low);
+                let want = Watch { behaviour, hot: hot_then, pending: pending[usize::from(behaviour)] };
+                hold(after == want, "a run's end", &(behaviour, hot, samples, high, low));
+            }
+        };
+        ends(false, (80, 75), &from_new);
+        ends(true, (80, 75), &from_hot);
+        ends(false, (75, 80), &turned);
+    }
+}
+
 fn speeds<S: Subject>(d: &mut Driver<S>) {
     // "The plan above asks 140 at 30, 149 at 33, 185 at 45, 218 at 53, 230 at 58, 255 at 60."
     let plan = Plan { chip: 1, table: 3, body: &EXAMPLE[4..] };
@@ -185,6 +244,39 @@ fn records<S: Subject>(d: &mut Driver<S>) {
         let text = format!("plan 1 refused {}\n", refusal);
         hold(&out[..length] == text.as_bytes(), &text, &input);
     }
+}
+
+/// The example, and a plan of chip 2, with the body cut anywhere: 5, between 4 and 6. If missing
+/// duties counted as zero, the fan would idle up to critical.
+fn cut_bodies<S: Subject>(d: &mut Driver<S>) {
+    let mut refusals = |chip: u8, table: u8, body: &[u8], space: usize, image: &mut [u8]| {
+        let plan = Plan { chip, table, body };
+        let mut out = vec![0xEE; space];
+        let asked = d.asked_of_plan(plan, 45).0;
+        [d.write_record(plan, &mut out).0, d.script(plan, &mut out).0, d.play(plan, image, 99).0, asked]
+    };
+    let two = [60, 50, 40, 30, 1, 255, 2, 0, 3, 0, 8, 0, 255, 255];
+    for (chip, body) in [(1, &EXAMPLE[4..]), (2, &two)] {
+        for length in 0..body.len() {
+            let cut = &body[..length];
+            hold(refusals(chip, 1, cut, 48, &mut [0; IMAGE]) == [5; 4], "a cut body", &cut);
+            hold(refusals(chip, 1, cut, 0, &mut []) == [5; 4], "5 before 8, 9 and 10", &cut);
+            hold(refusals(chip, 0, cut, 0, &mut []) == [4; 4], "4 before 5", &cut);
+            hold(refusals(3, 1, cut, 0, &mut []) == [4; 4], "no table of chip 3", &cut);
+            hold(refusals(4, 1, cut, 0, &mut []) == [3; 4], "3 before 5", &cut);
+        }
+        hold(refusals(chip, 1, body, 12, &mut [0; 255]) == [9, 9, 8, 0], "a whole body", &body);
+        hold(refusals(chip, 1, body, 48, &mut [0; IMAGE]) == [0, 0, 10, 0], "a whole body", &body);
+    }
+    // Out of order, but 6 and 7 only when the body is whole; what is asked is refused by neither.
+    let unordered = [40; 14];
+    hold(refusals(1, 1, &unordered[..8], 48, &mut [0; IMAGE]) == [5; 4], "5 before 6", &1);
+    hold(refusals(1, 1, &unordered[..9], 0, &mut []) == [6, 6, 6, 0], "then 6", &1);
+    hold(refusals(2, 2, &unordered[..13], 48, &mut [0; IMAGE]) == [5; 4], "5 before 6", &2);
+    hold(refusals(2, 2, &unordered, 0, &mut []) == [6, 6, 6, 0], "then 6", &2);
+    let falling = [10, 20, 30, 40, 50, 4, 3, 2, 1];
+    hold(refusals(1, 3, &falling[..8], 48, &mut [0; IMAGE]) == [5; 4], "5 before 7", &1);
+    hold(refusals(1, 3, &falling, 0, &mut []) == [7, 7, 7, 0], "then 7", &1);
 }
 
 /// The two mistakes about order, and that the check for them would have found them.

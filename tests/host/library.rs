@@ -5,7 +5,7 @@
 use crate::model::{Plan, Watch, BODY, SCRIPT};
 use crate::subject::Subject;
 
-// include/yerkhulbaz.h has the same declarations. A byte slice is a pointer and then a length.
+// include/yerkhulbaz.h has the same declarations. A slice is a pointer and then a length.
 #[rustfmt::skip]
 extern "C" {
     fn yk_write(chip: u8, image: *mut u8, length: usize, address: u8, byte: u8) -> u64;
@@ -16,6 +16,7 @@ extern "C" {
     fn yk_bytes(width: u8, steps: i16) -> u64;
     fn yk_microvolts(word: u16) -> u64;
     fn yk_sample(behaviour: u8, facts: u8, steps: i16, high: i8, hysteresis: i8) -> u64;
+    fn yk_run(behaviour: u8, facts: u8, samples: *const i16, length: usize, high: i8, hysteresis: i8) -> u64;
     fn yk_acknowledge(behaviour: u8, facts: u8) -> u64;
     fn yk_read_record(bytes: *const u8, length: usize) -> u64;
     fn yk_write_record(chip: u8, table: u8, body: *const u8, body_length: usize, out: *mut u8, length: usize) -> u64;
@@ -60,6 +61,12 @@ fn facts(watch: Watch) -> u8 {
 pub fn raw_sample(behaviour: u8, facts: u8, steps: i16, high: i8, hysteresis: i8) -> u64 {
     // SAFETY: the library answers every input; no memory is lent.
     unsafe { yk_sample(behaviour, facts, steps, high, hysteresis) }
+}
+
+/// A run's answer as it comes.
+pub fn raw_run(behaviour: u8, facts: u8, samples: &[i16], high: i8, hysteresis: i8) -> u64 {
+    // SAFETY: pointer and length come from one slice, which is lent for the call.
+    unsafe { yk_run(behaviour, facts, samples.as_ptr(), samples.len(), high, hysteresis) }
 }
 
 /// An acknowledge's answer as it comes.
@@ -112,6 +119,13 @@ impl Subject for Library {
         watch_of(watch.behaviour, answer)
     }
 
+    fn run(&self, watch: Watch, samples: &[i16], high: i8, hysteresis: i8) -> (Watch, bool) {
+        let answer = raw_run(watch.behaviour, facts(watch), samples, high, hysteresis);
+        let (refusal, watch, output) = watch_of(watch.behaviour, answer);
+        assert_eq!(refusal, 0, "a run is never refused");
+        (watch, output)
+    }
+
     fn acknowledge(&self, watch: Watch) -> (Watch, bool) {
         let answer = raw_acknowledge(watch.behaviour, facts(watch));
         let (refusal, watch, output) = watch_of(watch.behaviour, answer);
@@ -124,7 +138,7 @@ impl Subject for Library {
         self.sample(watch, 2048, 0, 0).2
     }
 
-    /// Writing a script "checks the plan by 3, 4, 6, 7 and then 9", and 48 bytes are enough.
+    /// Writing a script checks the plan and then 9, and 48 bytes are enough.
     fn judge(&self, plan: Plan) -> u32 {
         self.script(plan, &mut [0; SCRIPT]).0
     }

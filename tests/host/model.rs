@@ -4,7 +4,7 @@
 //! back unchanged), and each lent buffer holds what it held."
 
 pub use crate::images::{identity, read, reset, write};
-pub use crate::readings::{acknowledge, bytes_of, microvolts, output, sample, steps_of, Watch};
+pub use crate::readings::{acknowledge, bytes_of, microvolts, output, run, sample, steps_of, Watch};
 pub use crate::text::{translate, INPUT};
 
 /// "A register image is not 256 bytes long" is refusal 8.
@@ -17,8 +17,8 @@ pub const SCRIPT: usize = 48;
 // ---- Plans and what they ask
 
 /// Chip, table and the body in register order (9 bytes for chip 1: T1 to T4, critical, FL1 to
-/// FL4; 14 for chip 2: B1 to B4, then C1 to C5, high byte first). Missing bytes count as
-/// zero, further ones are ignored.
+/// FL4; 14 for chip 2: B1 to B4, then C1 to C5, high byte first). Fewer are refused with 5,
+/// further ones are ignored.
 #[derive(Clone, Copy, Debug)]
 pub struct Plan<'a> {
     pub chip: u8,
@@ -52,11 +52,20 @@ fn base(chip: u8, table: u8) -> u8 {
     first + 0x10 * (table - 1)
 }
 
-fn padded(chip: u8, bytes: &[u8]) -> [u8; BODY] {
+/// The chip's own bytes, of which there are enough, and zeros behind them.
+fn own(chip: u8, bytes: &[u8]) -> [u8; BODY] {
     let mut body = [0; BODY];
-    let length = bytes.len().min(body_length(chip));
+    let length = body_length(chip);
     body[..length].copy_from_slice(&bytes[..length]);
     body
+}
+
+/// 3 and 4, then 5, "the record's body is cut short": a plan comes with such a body too.
+fn body_refusal(plan: Plan) -> u32 {
+    match table_refusal(plan.chip, plan.table) {
+        0 if plan.body.len() < body_length(plan.chip) => 5,
+        refusal => refusal,
+    }
 }
 
 fn count(body: &[u8; BODY], k: usize) -> u16 {
@@ -82,10 +91,10 @@ fn order_refusal(chip: u8, body: &[u8; BODY]) -> u32 {
     }
 }
 
-/// The checks of a plan: 3, 4, 6 and 7.
+/// The checks of a plan: 3, 4, 5, 6 and 7.
 pub fn judge(plan: Plan) -> u32 {
-    match table_refusal(plan.chip, plan.table) {
-        0 => order_refusal(plan.chip, &padded(plan.chip, plan.body)),
+    match body_refusal(plan) {
+        0 => order_refusal(plan.chip, &own(plan.chip, plan.body)),
         refusal => refusal,
     }
 }
@@ -132,10 +141,10 @@ fn asked(chip: u8, body: &[u8; BODY], t: u8) -> u16 {
     }
 }
 
-/// "Asking a speed [...] of a plan [checks] 3 and 4, never 6 or 7."
+/// "Asking a speed [...] of a plan [checks] 3 and 4, never 6 or 7"; of its body 5.
 pub fn asked_of_plan(plan: Plan, t: u8) -> (u32, u16) {
-    match table_refusal(plan.chip, plan.table) {
-        0 => (0, asked(plan.chip, &padded(plan.chip, plan.body), t)),
+    match body_refusal(plan) {
+        0 => (0, asked(plan.chip, &own(plan.chip, plan.body), t)),
         refusal => (refusal, 0),
     }
 }
@@ -150,7 +159,7 @@ pub fn asked_of_image(chip: u8, table: u8, image: &[u8], t: u8) -> (u32, u16) {
         return (8, 0);
     }
     let first = usize::from(base(chip, table));
-    (0, asked(chip, &padded(chip, &image[first..]), t))
+    (0, asked(chip, &own(chip, &image[first..]), t))
 }
 
 // ---- Plan record and script
@@ -167,24 +176,15 @@ pub fn read_record(bytes: &[u8]) -> (u32, u8, u8, [u8; BODY], usize) {
     if bytes[0] != 0x43 || bytes[1] != 0x50 {
         return refused(2);
     }
-    let (chip, table) = (bytes[2], bytes[3]);
-    let refusal = table_refusal(chip, table);
-    if refusal != 0 {
-        return refused(refusal);
-    }
-    let used = 4 + body_length(chip);
-    if bytes.len() < used {
-        return refused(5);
-    }
-    let body = padded(chip, &bytes[4..]);
-    match order_refusal(chip, &body) {
-        0 => (0, chip, table, body, used),
+    let (chip, table, body) = (bytes[2], bytes[3], &bytes[4..]);
+    match judge(Plan { chip, table, body }) {
+        0 => (0, chip, table, own(chip, body), 4 + body_length(chip)),
         refusal => refused(refusal),
     }
 }
 
-/// "Writing a plan record or a script checks the plan by 3, 4, 6, 7 and then 9." "An output
-/// longer than the result keeps its tail."
+/// "Writing a plan record or a script checks the plan by 3, 4, 6, 7 and then 9", its body by 5.
+/// "An output longer than the result keeps its tail."
 pub fn write_record(plan: Plan, out: &mut [u8]) -> (u32, usize) {
     let refusal = judge(plan);
     if refusal != 0 {
@@ -195,7 +195,7 @@ pub fn write_record(plan: Plan, out: &mut [u8]) -> (u32, usize) {
         return (9, 0);
     }
     out[..4].copy_from_slice(&[0x43, 0x50, plan.chip, plan.table]);
-    out[4..4 + length].copy_from_slice(&padded(plan.chip, plan.body)[..length]);
+    out[4..4 + length].copy_from_slice(&plan.body[..length]);
     (0, 4 + length)
 }
 
@@ -203,7 +203,6 @@ pub fn write_record(plan: Plan, out: &mut [u8]) -> (u32, usize) {
 /// T4, critical, then FL1 to FL4 as planned; 13 writes. Chip 2: each high and low byte of C1
 /// to C5 to 00h in address order, then B1 to B4, then C1 to C5, high byte first; 24 writes."
 fn pairs(plan: Plan) -> ([u8; SCRIPT], usize) {
-    let body = padded(plan.chip, plan.body);
     let length = body_length(plan.chip);
     let first = base(plan.chip, plan.table);
     let (temperatures, fastest) = if plan.chip == 1 { (5, 0xFF) } else { (4, 0x00) };
@@ -217,7 +216,7 @@ fn pairs(plan: Plan) -> ([u8; SCRIPT], usize) {
     for k in temperatures..length {
         put(k, fastest);
     }
-    for (k, byte) in body[..length].iter().enumerate() {
+    for (k, byte) in plan.body[..length].iter().enumerate() {
         put(k, *byte);
     }
     (script, writes)
@@ -237,9 +236,9 @@ pub fn script(plan: Plan, out: &mut [u8]) -> (u32, usize) {
     (0, writes)
 }
 
-/// "Playing a script checks 3, 4, 6, 7, 8, 10 and no 9." "Playing a script looks [at the
-/// identity] once, before the first write." "A play also takes how many writes to make; a
-/// number above the script's length means all. It answers how many it made."
+/// "Playing a script checks 3, 4, 6, 7, 8, 10 and no 9", the plan's body by 5. "Playing a script
+/// looks [at the identity] once, before the first write." "A play also takes how many writes to
+/// make; a number above the script's length means all. It answers how many it made."
 pub fn play(plan: Plan, image: &mut [u8], count: usize) -> (u32, usize) {
     let mut refusal = judge(plan);
     if refusal == 0 {

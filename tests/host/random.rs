@@ -98,6 +98,37 @@ impl Random {
         }
     }
 
+    /// A limit in steps, or a little below or above it.
+    fn near(&mut self, limit: i8) -> i16 {
+        let away = if self.once_in(2) { self.below(3) as i16 - 1 } else { self.below(99) as i16 - 49 };
+        16 * i16::from(limit) + away
+    }
+
+    /// The high and the hysteresis limit, in both orders: mostly near each other, at times any two.
+    pub fn limits(&mut self) -> (i8, i8) {
+        let high = self.byte() as i8;
+        let low = if self.once_in(4) { self.byte() as i8 } else { high.saturating_sub(self.below(9) as i8) };
+        if self.once_in(3) {
+            (low, high)
+        } else {
+            (high, low)
+        }
+    }
+
+    /// One sample: mostly near one of the limits, at times any, and then refused at times.
+    pub fn sample(&mut self, (high, low): (i8, i8)) -> i16 {
+        match self.below(6) {
+            0 => self.steps(),
+            1..=3 => self.near(high),
+            _ => self.near(low),
+        }
+    }
+
+    /// Samples of a run, up to 48.
+    pub fn samples(&mut self, limits: (i8, i8)) -> Vec<i16> {
+        (0..self.below(49)).map(|_| self.sample(limits)).collect()
+    }
+
     /// An image: mostly 256 bytes, of any length at times; power-on bytes, power-on bytes with
     /// one bit flipped, random bytes, or random bytes with the chip's identity.
     pub fn image(&mut self, chip: u8) -> Vec<u8> {

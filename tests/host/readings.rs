@@ -76,6 +76,11 @@ pub fn sample(watch: Watch, steps: i16, high: i8, hysteresis: i8) -> (u32, Watch
     (0, Watch { hot, pending, ..watch })
 }
 
+/// Recorded samples in turn. "A refused sample changes neither fact", and the run goes on.
+pub fn run(watch: Watch, samples: &[i16], high: i8, hysteresis: i8) -> Watch {
+    samples.iter().fold(watch, |watch, steps| sample(watch, *steps, high, hysteresis).1)
+}
+
 /// "An acknowledge turns pending off and keeps hot."
 pub fn acknowledge(watch: Watch) -> Watch {
     Watch { pending: false, ..watch }

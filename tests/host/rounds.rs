@@ -1,7 +1,7 @@
 //! The random tests, as many rounds as are asked for.
 
 use crate::driver::{hold, Driver};
-use crate::model::{Plan, Watch, BODY, IMAGE, INPUT, SCRIPT};
+use crate::model::{Plan, Watch, IMAGE, INPUT, SCRIPT};
 use crate::random::{Draft, Random};
 use crate::subject::Subject;
 use crate::tests::power_on;
@@ -48,16 +48,13 @@ pub fn images<S: Subject>(d: &mut Driver<S>, r: &mut Random, rounds: usize) {
 /// Chains of samples and acknowledges from a new watch.
 pub fn watches<S: Subject>(d: &mut Driver<S>, r: &mut Random, rounds: usize) {
     let mut watch = Watch { behaviour: 0, hot: false, pending: false };
-    let (mut high, mut low) = (80, 75);
+    let mut limits = (80, 75);
     for round in 0..rounds {
         if round % 50 == 0 {
             watch = Watch { behaviour: r.below(3) as u8, hot: false, pending: false };
-            high = r.byte() as i8;
-            low = if r.once_in(4) { r.byte() as i8 } else { high.saturating_sub(r.below(9) as i8) };
+            limits = r.limits();
         }
-        let near = 16 * i16::from(if r.once_in(2) { high } else { low }) + r.below(99) as i16 - 49;
-        let steps = if r.once_in(6) { r.steps() } else { near };
-        watch = d.sample(watch, steps, high, low).1;
+        watch = d.sample(watch, r.sample(limits), limits.0, limits.1).1;
         if r.once_in(4) {
             watch = d.acknowledge(watch);
         }
@@ -65,20 +62,33 @@ pub fn watches<S: Subject>(d: &mut Driver<S>, r: &mut Random, rounds: usize) {
     }
 }
 
-/// Plans, ordered or not, and the same bytes in an image: all T.
+/// Runs of 0 to 48 samples from any watch, beside the same samples one by one.
+pub fn runs<S: Subject>(d: &mut Driver<S>, r: &mut Random, rounds: usize) {
+    for round in 0..rounds {
+        let behaviour = [0, 1, 2, 3, 255][round % 5];
+        let watch = Watch { behaviour, hot: r.once_in(2), pending: r.once_in(2) };
+        let (high, low) = r.limits();
+        let samples = r.samples((high, low));
+        let after = d.run(watch, &samples, high, low);
+        let in_turn = samples.iter().fold(watch, |watch, steps| d.sample(watch, *steps, high, low).1);
+        hold(after == in_turn, "a run is its samples in turn", &(watch, &samples, high, low));
+    }
+}
+
+/// Plans, ordered or not, and the same bytes in an image: all T. A short body asks nothing.
 pub fn plans<S: Subject>(d: &mut Driver<S>, r: &mut Random, rounds: usize) {
     for _ in 0..rounds {
         let draft = r.plan();
         d.judge(draft.plan());
         let mut image = r.bytes(IMAGE);
-        let (_, first) = place(&draft);
-        let mut body = draft.body.clone();
-        body.resize(if draft.chip == 1 { 9 } else { BODY }, 0);
-        image[first..first + body.len()].copy_from_slice(&body);
+        let (length, first) = place(&draft);
+        let own = &draft.body[..length.min(draft.body.len())];
+        image[first..first + own.len()].copy_from_slice(own);
         for t in 0..=255 {
             let answer = d.asked_of_plan(draft.plan(), t);
             let held = d.asked_of_image(draft.chip, draft.table, &image, t);
-            hold(answer == held, "plan and image ask the same", &(&draft, t));
+            let want = if held.0 == 0 && own.len() < length { (5, 0) } else { held };
+            hold(answer == want, "plan and image ask the same", &(&draft, t));
         }
     }
     // "Asking a speed of an image checks 3, 4 and 8."
@@ -86,6 +96,29 @@ pub fn plans<S: Subject>(d: &mut Driver<S>, r: &mut Random, rounds: usize) {
         let (chip, table) = (r.chip(), r.table());
         let image = r.image(chip);
         d.asked_of_image(chip, table, &image, r.byte());
+    }
+}
+
+/// Bodies in order or not, cut at every length, with outputs and images that could be refused
+/// too: 5 comes before 6 to 10, and what is lent holds what it held.
+pub fn cut_bodies<S: Subject>(d: &mut Driver<S>, r: &mut Random, rounds: usize) {
+    for _ in 0..rounds {
+        let Draft { chip, table, mut body } = r.good_plan();
+        if r.once_in(2) {
+            body = r.bytes(body.len());
+        }
+        for end in 0..body.len() {
+            let plan = Plan { chip, table, body: &body[..end] };
+            let mut out = vec![r.byte(); r.length()];
+            let mut image = r.image(chip);
+            let answers = [
+                d.write_record(plan, &mut out),
+                d.script(plan, &mut out),
+                d.play(plan, &mut image, r.below(27)),
+            ];
+            hold(answers == [(5, 0); 3], "a body that is cut short", &(plan, answers));
+            hold(d.asked_of_plan(plan, r.byte()) == (5, 0), "it asks nothing", &plan);
+        }
     }
 }
 
@@ -115,8 +148,8 @@ pub fn records<S: Subject>(d: &mut Driver<S>, r: &mut Random, rounds: usize) {
         if refusal == 0 {
             let (_, chip, table, body, used) = d.read_record(&out);
             let (length, _) = place(&draft);
-            let own: Vec<u8> = draft.body.iter().copied().chain([0; BODY]).take(length).collect();
-            let equal = (chip, table, &body[..length], used) == (draft.chip, draft.table, &own[..], count);
+            let own = &draft.body[..length];
+            let equal = (chip, table, &body[..length], used) == (draft.chip, draft.table, own, count);
             hold(equal, "plans come back equal from their record", &draft);
         }
         let mut out = vec![r.byte(); r.length()];

@@ -14,6 +14,7 @@ static uint8_t image[YK_IMAGE];
 static uint8_t input[YK_INPUT_MAX];
 static uint8_t out[YK_TEXT_MAX];
 static const uint8_t body[] = {0x1E, 0x28, 0x32, 0x37, 0x3C, 0x8C, 0xAA, 0xC8, 0xE6};
+static const int16_t samples[] = {1296, 1248, 1199};
 static volatile uint64_t answer;
 
 static void nothing(void) {}
@@ -25,6 +26,7 @@ static void do_steps(void) { answer = yk_steps(12, 0xC9, 0x00); }
 static void do_bytes(void) { answer = yk_bytes(12, -880); }
 static void do_microvolts(void) { answer = yk_microvolts(0xFFC0); }
 static void do_sample(void) { answer = yk_sample(YK_DEFAULT, 0, 1296, 80, 75); }
+static void do_run(void) { answer = yk_run(YK_DEFAULT, 0, samples, 3, 80, 75); }
 static void do_acknowledge(void) { answer = yk_acknowledge(YK_DEFAULT, 3); }
 static void do_read_record(void) { answer = yk_read_record(input, 13); }
 static void do_write_record(void) { answer = yk_write_record(1, 3, body, sizeof body, out, sizeof out); }
@@ -71,6 +73,7 @@ int main(void)
     tell("yk_bytes", do_bytes);
     tell("yk_microvolts", do_microvolts);
     tell("yk_sample", do_sample);
+    tell("yk_run", do_run);
     tell("yk_acknowledge", do_acknowledge);
     tell("yk_read_record", do_read_record);
     tell("yk_write_record", do_write_record);

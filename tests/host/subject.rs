@@ -13,10 +13,12 @@ pub trait Subject {
     fn microvolts(&self, word: u16) -> u32;
     /// Refusal, the watch afterwards and its output.
     fn sample(&self, watch: Watch, steps: i16, high: i8, hysteresis: i8) -> (u32, Watch, bool);
+    /// The watch after the last sample and its output.
+    fn run(&self, watch: Watch, samples: &[i16], high: i8, hysteresis: i8) -> (Watch, bool);
     /// The watch afterwards and its output.
     fn acknowledge(&self, watch: Watch) -> (Watch, bool);
     fn output(&self, watch: Watch) -> bool;
-    /// The body is short or long at times: missing bytes count as zero, further ones are
+    /// The body is short or long at times: a short one is refused with 5, further bytes are
     /// ignored. The same holds wherever a plan comes in.
     fn judge(&self, plan: Plan) -> u32;
     fn asked_of_plan(&self, plan: Plan, t: u8) -> (u32, u16);
@@ -44,6 +46,7 @@ impl Subject for Model {
     fn bytes_of(&self, width: u8, steps: i16) -> (u32, u8, u8) { model::bytes_of(width, steps) }
     fn microvolts(&self, word: u16) -> u32 { model::microvolts(word) }
     fn sample(&self, watch: Watch, steps: i16, high: i8, hysteresis: i8) -> (u32, Watch, bool) { let (refusal, after) = model::sample(watch, steps, high, hysteresis); (refusal, after, model::output(after)) }
+    fn run(&self, watch: Watch, samples: &[i16], high: i8, hysteresis: i8) -> (Watch, bool) { let after = model::run(watch, samples, high, hysteresis); (after, model::output(after)) }
     fn acknowledge(&self, watch: Watch) -> (Watch, bool) { let after = model::acknowledge(watch); (after, model::output(after)) }
     fn output(&self, watch: Watch) -> bool { model::output(watch) }
     fn judge(&self, plan: Plan) -> u32 { model::judge(plan) }

@@ -2,24 +2,31 @@
 //! are checked on the agreed answers.
 
 use crate::driver::{hold, Driver, NAMES};
-use crate::model::{Plan, Watch, BODY, IMAGE};
+use crate::model::{Plan, Watch, BODY, IMAGE, SCRIPT};
 use crate::random::{Draft, Random};
-use crate::rounds::{cuts, damaged_records, images, plans, plays, records, texts, watches};
+use crate::rounds::{
+    cut_bodies, cuts, damaged_records, images, plans, plays, records, runs, texts, watches,
+};
 use crate::subject::Subject;
 
 /// All parts; `rounds` multiplies the random ones.
 pub fn run<S: Subject>(d: &mut Driver<S>, seed: u64, rounds: usize) {
     let r = &mut Random::new(seed);
     every_chip(d, r);
+    every_body(d, r);
     every_write(d, r);
     every_flip(d);
     every_reading(d);
     every_watch(d);
+    every_run(d);
+    long_runs(d);
     damaged_records(d, r, 100 * rounds);
     for _ in 0..10 * rounds {
         images(d, r, 10_000);
         watches(d, r, 2_000);
+        runs(d, r, 1_000);
         plans(d, r, 600);
+        cut_bodies(d, r, 100);
         records(d, r, 8_000);
         plays(d, r, 4_000);
         cuts(d, r, 16);
@@ -64,6 +71,35 @@ fn every_chip<S: Subject>(d: &mut Driver<S>, r: &mut Random) {
             let plan = r.good_plan();
             d.play(plan.plan(), &mut image, 99);
             d.asked_of_image(plan.chip, plan.table, &image, r.byte());
+        }
+    }
+}
+
+/// Every chip number with every table number and a body of every length to two bytes past the
+/// whole one: nothing but 3, 4 and 5 refuses a good plan.
+fn every_body<S: Subject>(d: &mut Driver<S>, r: &mut Random) {
+    for chip in 0..=255 {
+        let mut image = r.confirmed(chip);
+        for table in 0..=255 {
+            let mut body = r.ordered(chip);
+            let whole = body.len();
+            body.extend([r.byte(), r.byte()]);
+            for length in 0..=body.len() {
+                let plan = Plan { chip, table, body: &body[..length] };
+                let want = match (chip, table) {
+                    (1, 1..=3) | (2, 1..=2) if length < whole => 5,
+                    (1, 1..=3) | (2, 1..=2) => 0,
+                    (1..=3, _) => 4,
+                    _ => 3,
+                };
+                let refusals = [
+                    d.asked_of_plan(plan, r.byte()).0,
+                    d.write_record(plan, &mut [0x3C; 20]).0,
+                    d.script(plan, &mut [0x3C; SCRIPT]).0,
+                    d.play(plan, &mut image, length).0,
+                ];
+                hold(refusals == [want; 4], "3, 4 and 5", &(plan, refusals));
+            }
         }
     }
 }
@@ -146,6 +182,37 @@ fn every_watch<S: Subject>(d: &mut Driver<S>) {
                     d.sample(watch, steps, high, low);
                 }
             }
+        }
+    }
+}
+
+/// Every run of up to four samples, at the limits, beside them and refused, from every watch; the
+/// limits in both orders and equal.
+fn every_run<S: Subject>(d: &mut Driver<S>) {
+    let samples = [1199, 1200, 1201, 1279, 1280, 1281, 2048];
+    for number in 0..20 {
+        let behaviour = [0, 1, 2, 3, 255][number / 4];
+        let watch = Watch { behaviour, hot: number & 1 != 0, pending: number & 2 != 0 };
+        for (high, low) in [(80, 75), (75, 80), (80, 80)] {
+            for digits in 0..8usize.pow(4) {
+                // The digit 7 is no sample.
+                let digit = |k: u32| digits / 8usize.pow(k) % 8;
+                let run: Vec<i16> = (0..4).filter_map(|k| samples.get(digit(k)).copied()).collect();
+                d.run(watch, &run, high, low);
+            }
+        }
+    }
+}
+
+/// The first and the last sample of a long run count.
+fn long_runs<S: Subject>(d: &mut Driver<S>) {
+    let watch = Watch { behaviour: 0, hot: false, pending: false };
+    for length in [127, 128, 255, 256, 257, 32767, 32768, 65535, 65536, 65537] {
+        for at in [0, length - 1] {
+            let mut samples = vec![1248; length];
+            hold(!d.run(watch, &samples, 80, 75).hot, "78 keeps hot off", &length);
+            samples[at] = 1296;
+            hold(d.run(watch, &samples, 80, 75).hot, "81 turns hot on", &(length, at));
         }
     }
 }
