@@ -4,7 +4,7 @@ import os
 HERE = os.path.dirname(os.path.abspath(__file__))
 NAMES = {1: "nct7802y", 2: "f75373s", 3: "nct80"}
 
-# The rows that the second reading had otherwise, as settled in docs/CARDS.md: writable, clears, power-on.
+# The two rows that the second reading had otherwise, as settled in docs/CARDS.md: writable, clears, power-on. They override the reading.
 SETTLED = {(1, 0x6D): (0x0F, 0x00, 0x00), (2, 0x32): (0xFF, 0x00, 0x00)}
 
 
