@@ -1,5 +1,6 @@
 pub mod Columns
 pub mod Apart
+pub mod Lines
 pub mod Fixed
 pub mod FixedPoints
 pub mod Tables
