@@ -1,10 +1,18 @@
 """Scripts, and plays that stop at each number of writes."""
 from cards import confirmed, reset, write
-from plans import PAPER, REFUSED, STEPPED, TABLES, Plan, asked, asked_of_image, body, pairs, refusal, show, speed
+from plans import PAPER, REFUSED, STEPPED, TABLES, VALUES, Plan, asked, asked_of_image, body, pairs, refusal, show, speed
 
 
-# The paper's own example: what the program prints for its plan.
-EXAMPLE = "A5FFA6FFA7FFA8FF" + "A01EA128A232A337A43C" + "A58CA6AAA7C8A8E6"
+FAN_2 = Plan(2, 2, (75, 65, 45, 35, 0x1112, 0x1314, 0x1516, 0x1718, 0x191A))
+
+# A plan for every table of every chip, with its script by the paper's registers. That of table 3 is the paper's own example.
+TABLE_SCRIPTS = (
+    (Plan(1, 1, VALUES), "85FF86FF87FF88FF" + "801E812882328337843C" + "858C86AA87C888E6"),
+    (Plan(1, 2, VALUES), "95FF96FF97FF98FF" + "901E912892329337943C" + "958C96AA97C898E6"),
+    (PAPER, "A5FFA6FFA7FFA8FF" + "A01EA128A232A337A43C" + "A58CA6AAA7C8A8E6"),
+    (STEPPED, "A400A500A600A700A800A900AA00AB00AC00AD00" + "A03CA132A228A31E" + "A401A502A603A704A805A906AA07AB08AC09AD0A"),
+    (FAN_2, "B400B500B600B700B800B900BA00BB00BC00BD00" + "B04BB141B22DB323" + "B411B512B613B714B815B916BA17BB18BC19BD1A"),
+)
 
 
 def script(plan):
@@ -105,11 +113,13 @@ def demand_3():
 
 
 def scripts():
-    assert "".join("%02X%02X" % pair for pair in script(PAPER)) == EXAMPLE and len(script(STEPPED)) == 24
-    for room in (25, 26, 50):
+    for room in (25, 26):
         line(PAPER, room)
-    for room in (47, 48, 50):
+    for room in (47, 48):
         line(STEPPED, room)
+    for plan, pairs_of_it in TABLE_SCRIPTS:
+        assert "".join("%02X%02X" % pair for pair in script(plan)) == pairs_of_it
+        line(plan, 50)
     for _, plan in REFUSED:
         line(plan, 0)
         line(plan, 50)

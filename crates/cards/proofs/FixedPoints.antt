@@ -14,7 +14,7 @@ use Rattle.cards.specs.F75373s as f75373s
 use Rattle.cards.specs.Nct80 as nct80
 
 -- a number of a row that the paper gives: what the card says, and what the paper says
-abbrev Point : Type 0
+abbrev pub Point : Type 0
 Point = ℕ × ℕ
 
 abbrev writable : Chip → ℕ → ℕ

@@ -3,6 +3,7 @@ pub mod Apart
 pub mod Lines
 pub mod Fixed
 pub mod FixedPoints
+pub mod Registers
 pub mod Tables
 pub mod Numbers
 pub mod Told

@@ -24,14 +24,26 @@ fn script(plan: Plan, room: usize) {
     printing::line_end();
 }
 
-// 9 where a byte is missing; a tail is kept.
+// 9 where a byte is missing.
 fn rooms() {
     script(sample_plans::paper(1, 3), 25);
     script(sample_plans::paper(1, 3), 26);
-    script(sample_plans::paper(1, 3), 50);
     script(sample_plans::stepped(), 47);
     script(sample_plans::stepped(), 48);
+}
+
+// A script for every table of every chip; a tail is kept.
+fn tables() {
+    script(sample_plans::paper(1, 1), 50);
+    script(sample_plans::paper(1, 2), 50);
+    script(sample_plans::paper(1, 3), 50);
     script(sample_plans::stepped(), 50);
+    let fan_2 = sample_plans::steps(
+        2,
+        [75, 65, 45, 35],
+        [0x1112, 0x1314, 0x1516, 0x1718, 0x191A],
+    );
+    script(fan_2, 50);
 }
 
 // Into no room and into plenty: 7 is before 9.
@@ -77,6 +89,7 @@ fn not_images(plan: Plan) {
 
 pub fn print_all() {
     rooms();
+    tables();
     refused_scripts();
     refused_plays();
     not_images(sample_plans::paper(1, 3));
