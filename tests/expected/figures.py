@@ -13,14 +13,14 @@ import sys
 sys.dont_write_bytecode = True
 
 from curves import curves
-from images import identity_bits, image_calls, rows, stored
+from images import identity_bits, image_calls, no_identity, rows, stored
 from readings import temperatures, voltages
 from records import records
 from scripts import scripts
 from watch import watches
 
 PROGRAMS = {
-    "chip_figures": (rows, image_calls, stored, identity_bits),
+    "chip_figures": (rows, image_calls, stored, identity_bits, no_identity),
     "reading_figures": (temperatures, voltages),
     "watch_figures": (watches,),
     "plan_figures": (curves,),

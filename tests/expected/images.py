@@ -50,3 +50,9 @@ def identity_bits():
     for chip, bits in ((1, 31), (2, 32)):
         assert confirmed(chip, reset(chip))
         print("identity chip %d power-on confirmed bits %d" % (chip, bits))
+
+
+def no_identity():
+    """Refusal 10, "for chip 3 always", also where 3Eh holds its manufacturer's 1Ah."""
+    assert reset(3)[0x3E] == 0x1A
+    print("identity chip 3 power-on refused 10")

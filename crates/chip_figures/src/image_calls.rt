@@ -165,14 +165,26 @@ fn bits_seen(chip: u8, image: &mut [u8], at: usize) -> u64 {
     seen
 }
 
-// The identity of the power-on image, and how many of its 2,048 bits identity sees.
-pub fn print_identity_bits(chip: u8) {
-    let mut image = [0u8; 256];
-    images::reset(chip, &mut image);
+// The identity of the chip's own power-on image.
+fn identity_at_power_on(chip: u8, image: &mut [u8]) {
+    images::reset(chip, image);
     printing::labelled(b"identity chip ", chip as u64);
     printing::text(b" power-on");
-    identity(chip, &image);
+    identity(chip, image);
+}
+
+// And how many of its 2,048 bits identity sees.
+pub fn print_identity_bits(chip: u8) {
+    let mut image = [0u8; 256];
+    identity_at_power_on(chip, &mut image);
     printing::labelled(b" bits ", all_bits_seen(chip, &mut image));
+    printing::line_end();
+}
+
+// Chip 3 has no identity rule: its own image, manufacturer byte and all, is refused.
+pub fn print_no_identity() {
+    let mut image = [0u8; 256];
+    identity_at_power_on(3, &mut image);
     printing::line_end();
 }
 

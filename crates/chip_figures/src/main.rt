@@ -8,4 +8,5 @@ fn main() {
     image_calls::print_stored();
     image_calls::print_identity_bits(1);
     image_calls::print_identity_bits(2);
+    image_calls::print_no_identity();
 }
