@@ -14,14 +14,14 @@ sys.dont_write_bytecode = True
 
 from curves import curves
 from images import identity_bits, image_calls, no_identity, rows, stored
-from readings import temperatures, voltages
+from readings import sensors, temperatures, voltages
 from records import records
 from scripts import scripts
 from watch import watches
 
 PROGRAMS = {
     "chip_figures": (rows, image_calls, stored, identity_bits, no_identity),
-    "reading_figures": (temperatures, voltages),
+    "reading_figures": (temperatures, sensors, voltages),
     "watch_figures": (watches,),
     "plan_figures": (curves,),
     "record_figures": (records,),

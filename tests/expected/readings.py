@@ -66,6 +66,33 @@ def temperatures():
         temperature_sweep(width)
 
 
+# By chip: the width, the addresses of the high bytes and that of the low byte. The rules paper has 05h, 27h and 06h; for chip 1 the sheet has
+# `MNTRTD1[10:3]` at 01h, `MNTRTD2[10:3]` at 02h and `MNTRTD3[10:3]` at 03h.
+SENSORS = {1: (11, (0x01, 0x02, 0x03), 0x05), 3: (12, (0x27,), 0x06)}
+
+
+def held(chip, written, steps):
+    """The temperatures of an image whose bytes are 5Ah but for those written."""
+    image = [0x5A] * 256
+    for address, byte in written.items():
+        image[address] = byte
+    width, highs, low = SENSORS[chip]
+    assert len(highs) == len(steps)
+    for high, is_steps in zip(highs, steps):
+        word = 256 * image[high] + image[low]
+        assert steps_of(width, word) == is_steps
+        print("temperature chip %d at %02X %02X bytes %04X steps %d" % (chip, high, low, word, is_steps))
+
+
+def sensors():
+    """Bits 7 to 5 of 05h and 7 to 4 of 06h count, and the others are ones: E7A0h and the sheet's +1.125 and -127.875 degrees in steps of 1/8; 7D00h, C900h, FFF0h."""
+    held(1, {0x01: 0xE7, 0x02: 0x19, 0x03: 0x80, 0x05: 0xBF}, (-195, 8 * 25 + 5, 8 * -128 + 5))
+    held(1, {0x01: 0x7F, 0x02: 0x01, 0x03: 0x80, 0x05: 0x3F}, (8 * 127 + 1, 1.125 * 8, -127.875 * 8))
+    held(3, {0x27: 0x7D, 0x06: 0x0F}, (2000,))
+    held(3, {0x27: 0xC9, 0x06: 0x0F}, (-880,))
+    held(3, {0x27: 0xFF, 0x06: 0xFF}, (-1,))
+
+
 def voltages():
     """Bits 15 to 6 times 2,500 microvolts."""
     for word in (0x0000, 0x003F, 0x0040, 0x7FFF, 0x8000, 0xFFC0, 0xFFFF):

@@ -1,4 +1,5 @@
 pub mod Columns
+pub mod Every
 pub mod Apart
 pub mod Lines
 pub mod Fixed

@@ -1,4 +1,4 @@
--- "Registers", as one list under one claim: each value of a fan table stands where the rules paper puts it.
+-- "Registers", as one list under one claim: each value of a fan table stands where the rules paper puts it, and so do the bytes of a temperature.
 -- Assumes nothing.
 use Prim.Native.Nat.{ℕ, _+_, _-_, _*_}
 use mathlib.Core.Path.{refl}
@@ -8,6 +8,8 @@ use lib.ListN.{length, getD}
 use Rattle.cards.specs.declared.Chip.the-variants.{Nct7802y, F75373s, Nct80}
 use Rattle.cards.specs.Rows.{positions}
 use Rattle.cards.specs.Cards.{tablesOf, tableOf}
+use Rattle.cards.specs.Nct7802y as nct7802y
+use Rattle.cards.specs.Nct80 as nct80
 use Rattle.cards.proofs.FixedPoints.{Point, agree}
 
 -- where the values of a table of chip 1 stand, by its number: T1 to T4, critical, FL1 to FL4
@@ -53,6 +55,11 @@ registers =
     ∷ (length (tablesOf Nct7802y), 3) ∷ (length (tablesOf F75373s), 2) ∷ (length (tablesOf Nct80), 0)
     ∷ (length (positions (tableOf Nct7802y 1)), 9) ∷ (length (positions (tableOf Nct7802y 2)), 9) ∷ (length (positions (tableOf Nct7802y 3)), 9)
     ∷ (length (positions (tableOf F75373s 1)), 14) ∷ (length (positions (tableOf F75373s 2)), 14)
+    -- "chip 1: high byte and bits 7 to 5 of 05h"; source document 000: "MNTRTD1[10:3]" at 01h, "MNTRTD2[10:3]" at 02h, "MNTRTD3[10:3]" at 03h
+    ∷ (nct7802y.temperature .low, 0x05) ∷ (nct7802y.temperature .bits, 0xE0) ∷ (length (nct7802y.temperature .high), 3)
+    ∷ (getD (nct7802y.temperature .high) 0 0, 0x01) ∷ (getD (nct7802y.temperature .high) 1 0, 0x02) ∷ (getD (nct7802y.temperature .high) 2 0, 0x03)
+    -- "chip 3: 27h and bits 7 to 4 of 06h"
+    ∷ (nct80.temperature .low, 0x06) ∷ (nct80.temperature .bits, 0xF0) ∷ (length (nct80.temperature .high), 1) ∷ (getD (nct80.temperature .high) 0 0, 0x27)
     ∷ []
 
 pub registers-stand : So (agree registers)

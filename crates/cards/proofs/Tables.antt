@@ -1,12 +1,10 @@
 -- "All fan table registers have mask FFh", and a table's registers are distinct addresses: tests computed once over the tables of each chip, and carried to each position.
 -- Assumes nothing.
 use Prim.Native.Nat.{ℕ, zero, suc, _-_, _≤_, _<_}
-use native.Mathlib.Nat.{le-of-suc-le-suc, not-suc-le-zero}
 use native.Mathlib.Omega.{arith}
-use mathlib.Core.Path.{_≡_, refl, sym, ap, _∙_}
-use mathlib.Core.Bool.{Bool, true, false, So, cond, not, _&&_, and-eq-true-iff, false≢true}
-use mathlib.Core.List.{List, [], _∷_}
-use borrow.Author.Tests.{eqb-true, eqb-false, ltb-true, leb-true, not-true}
+use mathlib.Core.Path.{_≡_, refl, sym, _∙_}
+use mathlib.Core.Bool.{Bool, true, false, So, cond, _&&_, and-eq-true-iff, false≢true}
+use borrow.Author.Tests.{eqb-true, ltb-true, leb-true}
 use lib.Dec.{eqb, leb, ltb}
 use lib.ListN.{length, getD}
 use Rattle.cards.specs.declared.Chip.{Chip}
@@ -17,36 +15,7 @@ use Rattle.cards.specs.Rows.{Table, positions}
 use Rattle.cards.specs.Cards.{rowOf, tablesOf, hasTable, tableOf, tableFrom, baseOf, Places}
 use Rattle.cards.specs.Nct7802y as nct7802y
 use Rattle.cards.specs.F75373s as f75373s
-
--- a test that holds of every entry
-abbrev every : {A : Type 0} → (A → Bool) → List A → Bool
-every test [] = true
-every test (a ∷ l) = test a && every test l
-
-of-every : {A : Type 0} (test : A → Bool) (l : List A) (other : A) → So (every test l) → (k : ℕ) → k < length l → So (test (getD l k other))
-of-every test [] other t k h = absurd (not-suc-le-zero h)
-of-every test (a ∷ l) other t zero h = and-eq-true-iff (test a) (every test l) .0 t .0
-of-every test (a ∷ l) other t (suc k) h =
-    of-every test l other (and-eq-true-iff (test a) (every test l) .0 t .1) k (le-of-suc-le-suc h)
-
-abbrev distinct : List ℕ → Bool
-distinct [] = true
-distinct (p ∷ ps) = every (λ q. not (eqb p q)) ps && distinct ps
-
--- what a list of distinct entries holds at a place, it holds nowhere else
-differs : (p : ℕ) (ps : List ℕ) → So (every (λ q. not (eqb p q)) ps) → (k : ℕ) → k < length ps → p ≡ getD ps k 0 → ⊥
-differs p ps t k h e =
-    eqb-false p (getD ps k 0) (not-true (eqb p (getD ps k 0)) (of-every (λ q. not (eqb p q)) ps 0 t k h)) e
-
-apart : (ps : List ℕ) → So (distinct ps) → (j k : ℕ) → j < length ps → k < length ps → getD ps j 0 ≡ getD ps k 0 → j ≡ k
-apart [] t j k h l e = absurd (not-suc-le-zero h)
-apart (p ∷ ps) t zero zero h l e = refl
-apart (p ∷ ps) t zero (suc k) h l e =
-    absurd (differs p ps (and-eq-true-iff (every (λ q. not (eqb p q)) ps) (distinct ps) .0 t .0) k (le-of-suc-le-suc l) e)
-apart (p ∷ ps) t (suc j) zero h l e =
-    absurd (differs p ps (and-eq-true-iff (every (λ q. not (eqb p q)) ps) (distinct ps) .0 t .0) j (le-of-suc-le-suc h) (sym e))
-apart (p ∷ ps) t (suc j) (suc k) h l e =
-    ap suc (apart ps (and-eq-true-iff (every (λ q. not (eqb p q)) ps) (distinct ps) .0 t .1) j k (le-of-suc-le-suc h) (le-of-suc-le-suc l) e)
+use Rattle.cards.proofs.Every.{every, of-every, distinct, apart}
 
 -- a position of the image whose register takes every bit
 abbrev free : Chip → ℕ → Bool

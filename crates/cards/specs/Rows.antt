@@ -14,8 +14,8 @@ Line = ℕ × ℕ × ℕ × ℕ
 abbrev pub Required : Type 0
 Required = ℕ × ℕ × ℕ
 
--- where a chip holds a temperature: its width, the address of its high byte where the rules paper names one, the address of its low bits, and
--- which bits of that byte they are
+-- where a chip holds temperatures: their width, the address of each sensor's high byte, the address of the low byte that the sensors share, and
+-- which bits of it count
 pub record Reading : Type 0 where
   pub width : ℕ
   pub high : List ℕ

@@ -1,5 +1,7 @@
-// Prints temperatures from bytes to steps, and from steps to bytes and back, at widths that there are and are not, and NCT80 voltages:
-// `temperature width W bytes HHLL steps N`, `temperature width W steps N bytes HHLL steps N`, `voltage word HHLL microvolts N`.
+// Prints temperatures from bytes to steps, and from steps to bytes and back, at widths that there are and are not, those that an image holds, and
+// NCT80 voltages: `temperature width W bytes HHLL steps N`, `temperature width W steps N bytes HHLL steps N`, `voltage word HHLL microvolts N`.
+mod sensors;
+
 use readings::Bytes;
 use readings::Steps;
 
@@ -181,5 +183,6 @@ fn voltages() {
 
 fn main() {
     temperatures();
+    sensors::print_all();
     voltages();
 }

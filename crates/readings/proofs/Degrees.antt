@@ -54,7 +54,7 @@ module _ (w : ℕ) (least : 8 ≤ w) (most : w ≤ 16) where
       (whole-word high h ∙ ap (λ (n : ℕ). degreesOf high *ℤ pos n) (sym degree) ∙ sym (scaled-twice (degreesOf high) (stepsPerDegree w) (2 ^ (16 - w)) (pow-pos (w - 8))))
       ∙ floored-scaled (degreesOf high *ℤ pos (stepsPerDegree w)) (16 - w)
 
-  low-masked : (low : ℕ) → low < 2 ^ 8 → bitAnd low (lowBits w) ≡ low / 2 ^ (16 - w) * 2 ^ (16 - w)
+  pub low-masked : (low : ℕ) → low < 2 ^ 8 → bitAnd low (lowBits w) ≡ low / 2 ^ (16 - w) * 2 ^ (16 - w)
   low-masked low h =
       let eight : w - 8 + (16 - w) ≡ 8 = omega arith in
       subst (λ (n : ℕ). bitAnd low (2 ^ n - 2 ^ (16 - w)) ≡ low / 2 ^ (16 - w) * 2 ^ (16 - w)) eight

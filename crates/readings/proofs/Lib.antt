@@ -6,3 +6,4 @@ pub mod Scaled
 pub mod Unique
 pub mod RoundTrip
 pub mod Degrees
+pub mod Sensors

@@ -36,7 +36,7 @@ pub at-a-width : (width : ℕ) → isWidth width ≡ true → RoundTrip width
 at-a-width width e = round-trip width (omega (arith, bounds width e)) (omega (arith, bounds width e))
 
 -- no check applies: the answer tells 0 and its values
-counted : {width high low : ℕ} {r : Steps} → isWidth width ≡ true → Counts width high low r → tellsSteps r ≡ (0, stepsAt width high low)
+pub counted : {width high low : ℕ} {r : Steps} → isWidth width ≡ true → Counts width high low r → tellsSteps r ≡ (0, stepsAt width high low)
 counted e p = rw e at (p .answer)
 
 written : {width : ℕ} {n : ℤ} {r : Bytes} → isWidth width ≡ true → fits width n ≡ true → Writes width n r → tellsBytes r ≡ (0, bytesAt width n)

@@ -1,2 +1,3 @@
 pub mod Readings
+pub mod Sensors
 pub mod Promises

@@ -1,0 +1,40 @@
+-- Tests of a whole list, and what each says of an entry: by induction over the list.
+-- Assumes nothing.
+use Prim.Native.Nat.{ℕ, zero, suc, _<_}
+use native.Mathlib.Nat.{le-of-suc-le-suc, not-suc-le-zero}
+use mathlib.Core.Path.{_≡_, refl, sym, ap}
+use mathlib.Core.Bool.{Bool, true, So, not, _&&_, and-eq-true-iff}
+use mathlib.Core.List.{List, [], _∷_}
+use borrow.Author.Tests.{eqb-false, not-true}
+use lib.Dec.{eqb}
+use lib.ListN.{length, getD}
+
+-- a test that holds of every entry
+abbrev pub every : {A : Type 0} → (A → Bool) → List A → Bool
+every test [] = true
+every test (a ∷ l) = test a && every test l
+
+pub of-every : {A : Type 0} (test : A → Bool) (l : List A) (other : A) → So (every test l) → (k : ℕ) → k < length l → So (test (getD l k other))
+of-every test [] other t k h = absurd (not-suc-le-zero h)
+of-every test (a ∷ l) other t zero h = and-eq-true-iff (test a) (every test l) .0 t .0
+of-every test (a ∷ l) other t (suc k) h =
+    of-every test l other (and-eq-true-iff (test a) (every test l) .0 t .1) k (le-of-suc-le-suc h)
+
+abbrev pub distinct : List ℕ → Bool
+distinct [] = true
+distinct (p ∷ ps) = every (λ q. not (eqb p q)) ps && distinct ps
+
+differs : (p : ℕ) (ps : List ℕ) → So (every (λ q. not (eqb p q)) ps) → (k : ℕ) → k < length ps → p ≡ getD ps k 0 → ⊥
+differs p ps t k h e =
+    eqb-false p (getD ps k 0) (not-true (eqb p (getD ps k 0)) (of-every (λ q. not (eqb p q)) ps 0 t k h)) e
+
+-- what a list of distinct entries holds at a place, it holds nowhere else
+pub apart : (ps : List ℕ) → So (distinct ps) → (j k : ℕ) → j < length ps → k < length ps → getD ps j 0 ≡ getD ps k 0 → j ≡ k
+apart [] t j k h l e = absurd (not-suc-le-zero h)
+apart (p ∷ ps) t zero zero h l e = refl
+apart (p ∷ ps) t zero (suc k) h l e =
+    absurd (differs p ps (and-eq-true-iff (every (λ q. not (eqb p q)) ps) (distinct ps) .0 t .0) k (le-of-suc-le-suc l) e)
+apart (p ∷ ps) t (suc j) zero h l e =
+    absurd (differs p ps (and-eq-true-iff (every (λ q. not (eqb p q)) ps) (distinct ps) .0 t .0) j (le-of-suc-le-suc h) (sym e))
+apart (p ∷ ps) t (suc j) (suc k) h l e =
+    ap suc (apart ps (and-eq-true-iff (every (λ q. not (eqb p q)) ps) (distinct ps) .0 t .1) j k (le-of-suc-le-suc h) (le-of-suc-le-suc l) e)
