@@ -34,6 +34,13 @@ class Watch:
         self.take(steps, high, hysteresis)
         return self.show(what)
 
+    def run(self, samples):
+        """The samples in turn, with the limits 80 and 75; one that is refused changes nothing. Shown once, at the end."""
+        for steps in samples:
+            if steps in WORDS[12]:
+                self.take(steps, 80, 75)
+        return self.show("limits 80 75 run" + "".join(" %d" % steps for steps in samples))
+
     def acknowledge(self):
         self.pending = False
         return self.show("acknowledge")
@@ -83,14 +90,32 @@ def watch_second_alarm(behaviour):
     watch.sample(1296)
 
 
-def watch_recorded(behaviour):
-    """The samples in turn, shown once at the end; 2048 is refused and changes nothing."""
-    samples = (1296, 1248, 2048, 1199, 1281)
+# Runs, and whether it is hot at their end: with a refused sample inside; then those that end between the limits, below both, and exactly at each.
+RUNS = (
+    ((1296, 1248, 2048, 1199, 1281), True),
+    ((1296, 2048, 1199), False),
+    ((1296, -2049, 1248), True),
+    ((1199, 2048, 1248), False),
+    ((1199, 1296, 1248), True),
+    ((1296, 1199, 1248), False),
+    ((1296, 1248, 1199), False),
+    ((1248, 1199), False),
+    ((1281, 1199, 1280), False),
+    ((1199, 1281, 1200), True),
+)
+
+
+def watch_runs(behaviour):
+    for samples, hot in RUNS:
+        watch = Watch(behaviour, silent=True)
+        watch.run(samples)
+        assert watch.hot == hot
+
+
+def watch_figure_in_runs(behaviour):
     watch = Watch(behaviour, silent=True)
-    for steps in samples:
-        if steps in WORDS[12]:
-            watch.take(steps, 80, 75)
-    watch.show("limits 80 75 run " + " ".join("%d" % steps for steps in samples))
+    pending = [watch.run((1296, 1248)), watch.acknowledge(), watch.run((1248,))]
+    assert pending == PENDING[behaviour][1:]
 
 
 def watches():
@@ -100,4 +125,5 @@ def watches():
         watch_at_the_ends(behaviour)
         watch_limits_crossed(behaviour)
         watch_second_alarm(behaviour)
-        watch_recorded(behaviour)
+        watch_runs(behaviour)
+        watch_figure_in_runs(behaviour)

@@ -1,5 +1,5 @@
-// Prints histories of the alarm watch, sample by sample, in each behaviour: `watch BEHAVIOUR new ..`, `watch BEHAVIOUR limits H L sample N ..` and
-// `watch BEHAVIOUR acknowledge ..`, each with what the watch then holds and shows.
+// Prints histories of the alarm watch in each behaviour: `watch BEHAVIOUR new ..`, `watch BEHAVIOUR limits H L sample N ..`,
+// `watch BEHAVIOUR limits H L run N N ..` and `watch BEHAVIOUR acknowledge ..`, each with what the watch then holds and shows.
 use watch::Behaviour;
 use watch::Sampled;
 use watch::Watch;
@@ -129,13 +129,46 @@ fn second_alarm(behaviour: Behaviour) {
     sample(watch, 1296, 80, 75);
 }
 
-// A run of recorded samples is the same samples in turn; the one that is refused changes nothing, and the run goes on.
-fn recorded(behaviour: Behaviour) {
-    let samples: [i16; 5] = [1296, 1248, 2048, 1199, 1281];
-    let watch = Watch::new(behaviour).run(&samples, 80, 75);
-    begin(watch);
-    printing::text(b" limits 80 75 run 1296 1248 2048 1199 1281");
-    end(watch);
+fn samples_of(samples: &[i16]) {
+    for k in 0..samples.len() {
+        printing::space();
+        printing::signed(samples[k]);
+    }
+}
+
+// Recorded samples in turn, with the limits 80 and 75.
+fn run(watch: Watch, samples: &[i16]) -> Watch {
+    let after = watch.run(samples, 80, 75);
+    begin(after);
+    printing::text(b" limits 80 75 run");
+    samples_of(samples);
+    end(after);
+    after
+}
+
+// A refused sample changes nothing, wherever it stands, and the run goes on.
+fn refused_in_a_run(behaviour: Behaviour) {
+    run(Watch::new(behaviour), &[1296, 1248, 2048, 1199, 1281]);
+    run(Watch::new(behaviour), &[1296, 2048, 1199]);
+    run(Watch::new(behaviour), &[1296, -2049, 1248]);
+    run(Watch::new(behaviour), &[1199, 2048, 1248]);
+}
+
+// Runs that end between the limits, below both, and exactly at each.
+fn ends_of_runs(behaviour: Behaviour) {
+    run(Watch::new(behaviour), &[1199, 1296, 1248]);
+    run(Watch::new(behaviour), &[1296, 1199, 1248]);
+    run(Watch::new(behaviour), &[1296, 1248, 1199]);
+    run(Watch::new(behaviour), &[1248, 1199]);
+    run(Watch::new(behaviour), &[1281, 1199, 1280]);
+    run(Watch::new(behaviour), &[1199, 1281, 1200]);
+}
+
+// The rules paper's history again, in two runs: the second goes on from where the first and the acknowledge ended.
+fn figure_in_runs(behaviour: Behaviour) {
+    let mut watch = run(Watch::new(behaviour), &[1296, 1248]);
+    watch = acknowledge(watch);
+    run(watch, &[1248]);
 }
 
 fn histories(behaviour: Behaviour) {
@@ -144,7 +177,9 @@ fn histories(behaviour: Behaviour) {
     at_the_ends(behaviour);
     limits_crossed(behaviour);
     second_alarm(behaviour);
-    recorded(behaviour);
+    refused_in_a_run(behaviour);
+    ends_of_runs(behaviour);
+    figure_in_runs(behaviour);
 }
 
 fn main() {
