@@ -15,7 +15,7 @@ use Rattle.records.proofs.Unique as records
 use Rattle.scripts.proofs.Unique as scripts
 use Rattle.plays.proofs.Unique as plays
 use Rattle.translation.proofs.Unique as translation
-use Rattle.clib.specs.Packed.{packed, Answers, YkWrite, YkRead, YkReset, YkIdentity, YkSteps, YkBytes, YkMicrovolts, YkSample, YkAcknowledge, YkReadRecord, YkWriteRecord, YkAskedOfPlan, YkAskedOfImage, YkScript, YkPlay, YkTranslate}
+use Rattle.clib.specs.Packed.{packed, Answers, YkWrite, YkRead, YkReset, YkIdentity, YkSteps, YkBytes, YkMicrovolts, YkSample, YkAcknowledge, YkReadRecord, YkWriteRecord, YkAskedOfPlan, YkAskedOfImage, YkScript, YkPlay, YkTranslate, YkRun}
 
 pub packed-refusal : (a b v w : ℕ) → a < 256 → b < 256 → packed a v ≡ packed b w → a ≡ b
 packed-refusal a b v w h k e = omega arith
@@ -78,3 +78,6 @@ play-unique chip table body old count p q = (answers-unique (λ a b k l. plays.p
 
 pub translate-unique : {input old : List ℕ} {r s : ℕ} {l m : List ℕ} → YkTranslate input old r l → YkTranslate input old s m → (r ≡ s) × (l ≡ m)
 translate-unique p q = (answers-unique (λ a b k l. translation.translates-unique k l .0) p q, translation.translates-unique (p .kept) (q .kept) .1)
+
+pub run-unique : (behaviour facts : ℕ) (samples : List ℤ) (high hysteresis : ℤ) {r s : ℕ} → YkRun behaviour facts samples high hysteresis r → YkRun behaviour facts samples high hysteresis s → r ≡ s
+run-unique behaviour facts samples high hysteresis p q = answers-unique (λ a b k l. watch.runs-unique k l) p q

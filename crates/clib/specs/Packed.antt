@@ -133,3 +133,8 @@ YkPlay chip table body old count r new =
 
 abbrev pub YkTranslate : List ℕ → List ℕ → ℕ → List ℕ → Type 0
 YkTranslate input old r new = Answers packsCount (λ a. translation.Translates input old a new) r
+
+-- samples in turn; "A refused sample changes neither fact", and the call itself is never refused
+abbrev pub YkRun : ℕ → ℕ → List ℤ → ℤ → ℤ → ℕ → Type 0
+YkRun behaviour facts samples high hysteresis r =
+    Answers packsWatch (λ w. watch.Runs (watchOf behaviour facts) samples high hysteresis w) r

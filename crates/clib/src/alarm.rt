@@ -3,7 +3,7 @@ use crate::facts;
 use crate::packing;
 use watch::Sampled;
 ghost use mathlib.Core.Path.{_≡_};
-ghost use Rattle.clib.specs.Packed.{packsSampled, YkSample, YkAcknowledge};
+ghost use Rattle.clib.specs.Packed.{packsSampled, YkSample, YkAcknowledge, YkRun};
 
 // "a watch comes back unchanged": a refused sample answers the facts too.
 fn of_sampled(sampled: Sampled) -> u64
@@ -32,5 +32,15 @@ pub extern "C" fn yk_acknowledge(behaviour: u8, facts: u8) -> u64
 {
     let watch = facts::watch_of(behaviour, facts);
     let after = watch.acknowledge();
+    packing::packed(0, facts::facts_of(after))
+}
+
+// Samples in turn, with the same limits; a refused one changes nothing.
+#[no_mangle]
+pub extern "C" fn yk_run(behaviour: u8, facts: u8, samples: &[i16], high: i8, hysteresis: i8) -> u64
+    ensures { λ r. ⌜ YkRun behaviour facts (now (samples .entry)) high hysteresis r ⌝ }
+{
+    let before = facts::watch_of(behaviour, facts);
+    let after = before.run(samples, high, hysteresis);
     packing::packed(0, facts::facts_of(after))
 }
