@@ -8,3 +8,4 @@ pub mod Planned
 pub mod Walked
 pub mod Unique
 pub mod Answers
+pub mod WrittenOut
