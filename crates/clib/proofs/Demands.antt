@@ -101,6 +101,7 @@ demand-1 =
       yk-microvolts = λ word r p. packed-answered (λ n. n) [] 0 (0, p .answer) refl (never-refused 0 (p .answer)) (p .same);
       yk-sample = λ behaviour facts steps high hysteresis r p. packed-answered factsOf _ _ _ refl (sample-answered _ steps high hysteresis _ (p .kept)) (p .same);
       yk-acknowledge = λ behaviour facts r p. packed-answered (λ n. n) [] 0 (0, factsOf (p .answer)) refl (never-refused 0 (factsOf (p .answer))) (p .same);
+      yk-run = λ behaviour facts samples high hysteresis r p. packed-answered (λ n. n) [] 0 (0, factsOf (p .answer)) refl (never-refused 0 (factsOf (p .answer))) (p .same);
       yk-read-record = λ bytes r p. used-answered _ (p .answer) r refl (ap (λ (t : ℕ × ℕ). t .0) (p .kept .answer)) (p .same);
       yk-write-record = λ chip table body old r new p. packed-count (p .answer) _ _ r _ refl (p .kept .answer) (p .kept .bytes) (p .same);
       yk-asked-of-plan = λ chip table body t r p. packed-answered (λ n. n) _ 0 _ refl (told-answered 0 _ _ (p .kept .answer)) (p .same);

@@ -45,7 +45,7 @@ use Rattle.plays.specs.Plays as plays
 use Rattle.translation.specs.Text as translation
 use Rattle.clib.specs.Facts.{watchOf, factsOf}
 use Rattle.clib.specs.Bodies.{writeBodyChecks, scriptBodyChecks, playBodyChecks}
-use Rattle.clib.specs.Packed.{YkWrite, YkRead, YkReset, YkIdentity, YkSteps, YkBytes, YkMicrovolts, YkSample, YkAcknowledge, YkReadRecord, YkWriteRecord, YkAskedOfPlan, YkAskedOfImage, YkScript, YkPlay, YkTranslate}
+use Rattle.clib.specs.Packed.{YkWrite, YkRead, YkReset, YkIdentity, YkSteps, YkBytes, YkMicrovolts, YkSample, YkAcknowledge, YkRun, YkReadRecord, YkWriteRecord, YkAskedOfPlan, YkAskedOfImage, YkScript, YkPlay, YkTranslate}
 
 -- Of an answer that tells a number and values: the number is that of the first check that applies, and where it is not 0 "zero in every other part of
 -- the answer" ..
@@ -136,6 +136,8 @@ pub record Demand1 : Type 0 where
   pub yk-sample : (behaviour facts : ℕ) (steps high hysteresis : ℤ) (r : ℕ) → YkSample behaviour facts steps high hysteresis r
       → Answered (watch.sampleChecks steps) (factsOf (watchOf behaviour facts)) (unpacked r)
   pub yk-acknowledge : (behaviour facts r : ℕ) → YkAcknowledge behaviour facts r → Answered [] 0 (unpacked r)
+  pub yk-run : (behaviour facts : ℕ) (samples : List ℤ) (high hysteresis : ℤ) (r : ℕ) → YkRun behaviour facts samples high hysteresis r
+      → Answered [] 0 (unpacked r)
   pub yk-read-record : (bytes : List ℕ) (r : ℕ) → YkReadRecord bytes r → Answered (records.recordChecks bytes) 0 (unpacked r)
   pub yk-write-record : (chip table : ℕ) (body old : List ℕ) (r : ℕ) (new : List ℕ) → YkWriteRecord chip table body old r new
       → Answered (writeBodyChecks chip table body old) 0 (unpacked r) × Kept (unpacked r .0) old new
