@@ -5,6 +5,9 @@
  *
  * The library does no input or output, allocates nothing and keeps nothing between two calls: it
  * works on buffers that the caller lends for the time of the call. Link libclib.a (x86-64 Linux).
+ * From the system's libc it needs memcpy (and memset, where the compiler comes to use it), and
+ * nothing else. README.md has the lines that compile and run a program, on x86-64 and on an Arm
+ * machine.
  *
  * ANSWERS. Every function answers every input and returns one uint64_t: the low byte is the
  * refusal, 0 when the call was accepted; the rest is the value. Take it apart with yk_refusal()
@@ -22,7 +25,11 @@
  *
  * AN IMAGE is the 256 register bytes of one chip, indexed by address (chip 1: bank 0). Any other
  * length is refused with 8. Functions work on the image only; the caller moves bytes between the
- * image and the chip.
+ * image and the chip. On chip 1 the caller first makes sure of bank 0 (bit 0 of 00h is zero), which
+ * identity does not ask for: with bank 1 selected the same addresses are other registers.
+ *
+ * A FAN TABLE works only while the chip is in its curve mode. The mode bits are the caller's: no
+ * plan and no script has them.
  *
  * A PLAN is a chip, a fan table and a body, the table's bytes in register order:
  *   chip 1, tables 1 to 3, 9 bytes:   T1 T2 T3 T4 critical FL1 FL2 FL3 FL4
