@@ -3,3 +3,4 @@ pub mod Unique
 pub mod Bodies
 pub mod Answered
 pub mod Demands
+pub mod Figures

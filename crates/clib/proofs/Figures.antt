@@ -1,0 +1,205 @@
+-- What a caller in C gets, as one list under one claim: calls, and the number that include/yerkhulbaz.h gives for each, the refusal in its low byte and
+-- the value above it. A call's contract leaves one answer, which is computed.
+-- Assumes nothing.
+use Prim.Native.Nat.{ℕ, _+_, _*_}
+use mathlib.Core.Path.{_≡_, refl, ap, ap₂, _∙_}
+use mathlib.Core.Bool.{Bool, So, true, cond, _&&_, and-eq-true-iff}
+use mathlib.Core.List.{List, [], _∷_, _++_}
+use borrow.Author.Tests.{eqb-true}
+use lib.Dec.{eqb}
+use lib.IntN.{ℤ, pos, negℤ}
+use lib.ListN.{length, getD, replicate}
+use Rattle.refusal.specs.Checks.{first, told, toldOr}
+use Rattle.cards.specs.Cards.{chipOf, whenKnown, tableOf}
+use Rattle.cards.specs.Identity.{confirmed}
+use Rattle.curves.specs.declared.Plan.{Plan}
+use Rattle.curves.specs.Curves as curves
+use Rattle.curves.specs.Planned.{asks}
+use Rattle.plans.specs.Plans.{held, askImageChecks}
+use Rattle.images.specs.Images.{imageChecks}
+use Rattle.identities.specs.Identities.{identityChecks}
+use Rattle.readings.specs.Readings as readings
+use Rattle.readings.specs.Promises.{stepsChecks, bytesChecks}
+use Rattle.watch.specs.declared.Watch.{Watch}
+use Rattle.watch.specs.Alarm as alarm
+use Rattle.watch.specs.Promises.{sampleChecks}
+use Rattle.records.specs.Records.{recordChecks, recordLength, chipIn, planIn, noPlan, roomChecks}
+use Rattle.translation.specs.Words.{decimal}
+use Rattle.translation.specs.Text.{textOf, endLine}
+use Rattle.clib.specs.Facts.{watchOf, factsOf}
+use Rattle.clib.specs.Packed.{packed, packs, YkRead, YkIdentity, YkSteps, YkBytes, YkMicrovolts, YkSample, YkAcknowledge, YkRun, YkReadRecord, YkAskedOfImage, YkTranslate}
+
+-- a call and what it is given; samples come with the limits 80 and 75
+pub data Call : Type 0 where
+  read : ℕ → List ℕ → ℕ → Call
+  identity : ℕ → List ℕ → Call
+  steps : ℕ → ℕ → ℕ → Call
+  bytes : ℕ → ℤ → Call
+  microvolts : ℕ → Call
+  sample : ℕ → ℕ → ℤ → Call
+  acknowledge : ℕ → ℕ → Call
+  run : ℕ → ℕ → List ℤ → Call
+  readRecord : List ℕ → Call
+  askedOfImage : ℕ → ℕ → List ℕ → ℕ → Call
+  translate : List ℕ → List ℕ → Call
+
+abbrev pub Promise : Call → ℕ → Type 0
+Promise (read chip image address) r = YkRead chip image address r
+Promise (identity chip image) r = YkIdentity chip image r
+Promise (steps width high low) r = YkSteps width high low r
+Promise (bytes width n) r = YkBytes width n r
+Promise (microvolts word) r = YkMicrovolts word r
+Promise (sample behaviour facts n) r = YkSample behaviour facts n (pos 80) (pos 75) r
+Promise (acknowledge behaviour facts) r = YkAcknowledge behaviour facts r
+Promise (run behaviour facts ns) r = YkRun behaviour facts ns (pos 80) (pos 75) r
+Promise (readRecord bs) r = YkReadRecord bs r
+Promise (askedOfImage chip table image t) r = YkAskedOfImage chip table image t r
+Promise (translate input old) r = (new : List ℕ) × YkTranslate input old r new
+
+-- what an answer tells, as one number
+abbrev ofSteps : ℕ × ℤ → ℕ
+ofSteps t = packed (t .0) (readings.asWord (t .1))
+
+abbrev ofBytes : ℕ × (ℕ × ℕ) → ℕ
+ofBytes t = packed (t .0) (t .1 .0 * 256 + t .1 .1)
+
+abbrev ofWatch : ℕ × Watch → ℕ
+ofWatch t = packed (t .0) (factsOf (t .1))
+
+abbrev ofRecord : ℕ × ℕ → Plan → ℕ
+ofRecord t plan = packed (t .0) (cond (eqb (t .0) 0) (t .1 + 256 * plan .chip + 65536 * plan .table) 0)
+
+-- the number that a call's contract leaves
+abbrev answer : Call → ℕ
+answer (read chip image address) = packs (told (imageChecks chip image) (getD image address 0))
+answer (identity chip image) = packed (first (identityChecks chip image)) 0
+answer (steps width high low) = ofSteps (toldOr (pos 0) (stepsChecks width) (readings.stepsAt width high low))
+answer (bytes width n) = ofBytes (toldOr (0, 0) (bytesChecks width n) (readings.bytesAt width n))
+answer (microvolts word) = packed 0 (readings.voltage word)
+answer (sample behaviour facts n) =
+    ofWatch (first (sampleChecks n), alarm.after (watchOf behaviour facts) (alarm.sample n (pos 80) (pos 75)))
+answer (acknowledge behaviour facts) = ofWatch (0, alarm.acknowledged (watchOf behaviour facts))
+answer (run behaviour facts ns) = ofWatch (0, alarm.run (watchOf behaviour facts) (alarm.recorded (pos 80) (pos 75) ns))
+answer (readRecord bs) =
+    ofRecord (told (recordChecks bs) (whenKnown (chipOf (chipIn bs)) recordLength 0))
+    (cond (eqb (first (recordChecks bs)) 0) (planIn bs) noPlan)
+answer (askedOfImage chip table image t) =
+    packs (told (askImageChecks chip table image) (whenKnown (chipOf chip) (λ c. asks c (held (tableOf c table) image) t) 0))
+answer (translate input old) = packs (told (roomChecks (textOf input) old) (length (textOf input)))
+
+only : (call : Call) (r : ℕ) → Promise call r → r ≡ answer call
+only (read chip image address) r p = p .same ∙ ap packs (p .kept .answer)
+only (identity chip image) r p = p .same ∙ ap (λ (n : ℕ). packed n 0) (p .kept .answer)
+only (steps width high low) r p = p .same ∙ ap ofSteps (p .kept .answer)
+only (bytes width n) r p = p .same ∙ ap ofBytes (p .kept .answer)
+only (microvolts word) r p = p .same ∙ ap (λ (n : ℕ). packed 0 n) (p .kept .answer)
+only (sample behaviour facts n) r p = p .same ∙ ap ofWatch (p .kept .answer)
+only (acknowledge behaviour facts) r p = p .same ∙ ap (λ (w : Watch). ofWatch (0, w)) (p .kept .answer)
+only (run behaviour facts ns) r p = p .same ∙ ap (λ (w : Watch). ofWatch (0, w)) (p .kept .answer)
+only (readRecord bs) r p = p .same ∙ ap₂ ofRecord (p .kept .answer) (p .kept .plan)
+only (askedOfImage chip table image t) r p = p .same ∙ ap packs (p .kept .answer)
+only (translate input old) r p = p .1 .same ∙ ap packs (p .1 .kept .answer)
+
+-- a call, and what it answers by the header
+abbrev pub Figure : Type 0
+Figure = Call × ℕ
+
+abbrev pub AllHold : List Figure → Type 0
+AllHold [] = Unit {0}
+AllHold (f ∷ fs) = ((r : ℕ) → Promise (f .0) r → r ≡ f .1) × AllHold fs
+
+unfoldable agree : List Figure → Bool
+agree [] = true
+agree (f ∷ fs) = eqb (answer (f .0)) (f .1) && agree fs
+
+each : (fs : List Figure) → So (agree fs) → AllHold fs
+unfolding agree
+each [] t = tt
+each (f ∷ fs) t =
+    let both = and-eq-true-iff (eqb (answer (f .0)) (f .1)) (agree fs) .0 t in
+    (λ r p. only (f .0) r p ∙ eqb-true (answer (f .0)) (f .1) (both .0), each fs (both .1))
+
+-- "AN IMAGE is the 256 register bytes of one chip": any bytes, and "5Ah, 5Bh, 5Dh, 5Eh are 02h, 04h, 19h, 34h"
+abbrev image : List ℕ
+image = replicate 256 0x5A
+
+abbrev imageOf2 : List ℕ
+imageOf2 = replicate 0x5A 0 ++ (0x02 ∷ 0x04 ∷ 0x00 ∷ 0x19 ∷ 0x34 ∷ replicate 161 0)
+
+unfoldable pub figures : List Figure
+figures =
+    -- "YK_DEFAULT = 0, YK_ONE_TIME = 1, YK_COMPARATOR = 2", "Any other number counts as comparator": a new watch at 81 degrees, then a hot one that was
+    -- acknowledged, at 78
+    (sample 0 0 (pos 1296), 0x0700)
+    ∷ (sample 1 0 (pos 1296), 0x0700)
+    ∷ (sample 2 0 (pos 1296), 0x0500)
+    ∷ (sample 255 0 (pos 1296), 0x0500)
+    ∷ (sample 0 1 (pos 1248), 0x0700)
+    ∷ (sample 1 1 (pos 1248), 0x0100)
+    ∷ (sample 2 1 (pos 1248), 0x0500)
+    ∷ (sample 255 1 (pos 1248), 0x0500)
+    -- a new one at 78
+    ∷ (sample 0 0 (pos 1248), 0x0000)
+    -- "In facts bit 0 is hot, bit 1 is pending, other bits are ignored"; "A refused sample carries the facts as they were": 12, and above it
+    -- "hot + 2 * pending + 4 * output"
+    ∷ (sample 0 0x00 (pos 2048), 0x000C)
+    ∷ (sample 0 0x01 (pos 2048), 0x010C)
+    ∷ (sample 0 0x02 (pos 2048), 0x060C)
+    ∷ (sample 0 0x03 (pos 2048), 0x070C)
+    ∷ (sample 1 0x00 (pos 2048), 0x000C)
+    ∷ (sample 1 0x01 (pos 2048), 0x010C)
+    ∷ (sample 1 0x02 (pos 2048), 0x060C)
+    ∷ (sample 1 0x03 (pos 2048), 0x070C)
+    ∷ (sample 2 0x00 (pos 2048), 0x000C)
+    ∷ (sample 2 0x01 (pos 2048), 0x050C)
+    ∷ (sample 2 0x02 (pos 2048), 0x020C)
+    ∷ (sample 2 0x03 (pos 2048), 0x070C)
+    ∷ (sample 0 0xFC (pos 2048), 0x000C)
+    ∷ (sample 0 0xFD (pos 2048), 0x010C)
+    ∷ (sample 0 0xFE (pos 2048), 0x060C)
+    ∷ (sample 0 0xFF (pos 2048), 0x070C)
+    -- "Turns pending off and keeps hot."
+    ∷ (acknowledge 0 0x03, 0x0100)
+    ∷ (acknowledge 1 0xFF, 0x0100)
+    ∷ (acknowledge 2 0x03, 0x0500)
+    ∷ (acknowledge 0 0xFC, 0x0000)
+    -- samples in turn, from the facts that are given; a refused one changes neither fact, and the call is accepted
+    ∷ (run 0 0 (pos 1296 ∷ pos 2048 ∷ pos 1199 ∷ []), 0x0600)
+    ∷ (run 0 0 (pos 1199 ∷ pos 1248 ∷ []), 0x0000)
+    ∷ (run 0 1 (pos 1248 ∷ []), 0x0700)
+    ∷ (run 1 1 (pos 1248 ∷ []), 0x0100)
+    ∷ (run 2 1 (pos 1248 ∷ []), 0x0500)
+    ∷ (run 255 0xFE [], 0x0200)
+    -- steps as a 16-bit two's complement number: 2000, -1 and -880 at width 12, -195 at 11; 10 is no width
+    ∷ (steps 12 0x7D 0x00, 0x07D000)
+    ∷ (steps 12 0xFF 0xF0, 0xFFFF00)
+    ∷ (steps 12 0xC9 0x00, 0xFC9000)
+    ∷ (steps 11 0xE7 0xA0, 0xFF3D00)
+    ∷ (steps 10 0xE7 0xA0, 0x00000B)
+    -- "high * 256 + low"; 256 doesn't fit width 9
+    ∷ (bytes 11 (negℤ (pos 195)), 0xE7A000)
+    ∷ (bytes 9 (pos 256), 0x00000C)
+    -- "the microvolts, 0 to 2,557,500"
+    ∷ (microvolts 0x0000, 0)
+    ∷ (microvolts 0xFFFF, 256 * 2557500)
+    -- "the byte"; 4 is no chip; "Chip 3 is never confirmed"
+    ∷ (read 1 image 0, 0x5A00)
+    ∷ (read 4 image 0, 0x0003)
+    ∷ (identity 2 imageOf2, 0x0000)
+    ∷ (identity 3 image, 0x000A)
+    -- "used + 256 * chip + 65536 * table": the paper's record, one of chip 2, and one without its mark
+    ∷ (readRecord (0x43 ∷ 0x50 ∷ 1 ∷ 3 ∷ 0x1E ∷ 0x28 ∷ 0x32 ∷ 0x37 ∷ 0x3C ∷ 0x8C ∷ 0xAA ∷ 0xC8 ∷ 0xE6 ∷ []), 0x03010D00)
+    ∷ (readRecord (0x43 ∷ 0x50 ∷ 2 ∷ 1 ∷ 0x3C ∷ 0x32 ∷ 0x28 ∷ 0x1E ∷ 1 ∷ 0xFF ∷ 2 ∷ 0 ∷ 3 ∷ 0 ∷ 8 ∷ 0 ∷ 0xFF ∷ 0xFF ∷ []), 0x01021200)
+    ∷ (readRecord (0x50 ∷ 0x43 ∷ 2 ∷ 1 ∷ []), 0x00000002)
+    -- "the duty or count"; "chip 3 has no fan table"
+    ∷ (askedOfImage 1 1 image 0x5A, 0xFF00)
+    ∷ (askedOfImage 2 1 image 0x5B, 0x5A5A00)
+    ∷ (askedOfImage 3 1 image 0x5A, 0x0004)
+    -- "the length of the text": `end 0` and a line feed
+    ∷ (translate [] (replicate 6 0), 0x0600)
+    ∷ (translate [] (replicate 5 0), 0x0009)
+    ∷ []
+
+pub figures-hold : AllHold figures
+unfolding agree figures factsOf confirmed curves.words curves.slope curves.steps textOf endLine decimal
+figures-hold = each figures refl
