@@ -2,7 +2,7 @@
 use curves::Plan;
 use plans::Asked;
 ghost use mathlib.Core.Path.{_≡_};
-ghost use Rattle.sample_plans.specs.Samples.{sloped, stepped as Samples·stepped};
+ghost use Rattle.sample_plans.specs.Samples.{sloped, stepped as Samples·stepped, paperFor, allDifferent, refusedAt};
 
 // A plan with chip 1's values; another chip number may stand on it.
 pub fn slope(chip: u8, table: u8, temperatures: [u8; 4], critical: u8, duties: [u8; 4]) -> Plan
@@ -35,12 +35,16 @@ pub fn steps(table: u8, bounds: [u8; 4], counts: [u16; 5]) -> Plan
 }
 
 // The values of the rules paper's plan, which is for table 3 of chip 1.
-pub fn paper(chip: u8, table: u8) -> Plan {
+pub fn paper(chip: u8, table: u8) -> Plan
+    ensures { λ r. ⌜ r ≡ paperFor chip table ⌝ }
+{
     slope(chip, table, [30, 40, 50, 55], 60, [140, 170, 200, 230])
 }
 
 // A plan of chip 2 whose bytes are all different.
-pub fn stepped() -> Plan {
+pub fn stepped() -> Plan
+    ensures { λ r. ⌜ r ≡ allDifferent ⌝ }
+{
     steps(
         1,
         [60, 50, 40, 30],
@@ -49,7 +53,9 @@ pub fn stepped() -> Plan {
 }
 
 // Plans that a check refuses, and several that two or more would: then the first is the answer.
-pub fn refused(k: u8) -> Plan {
+pub fn refused(k: u8) -> Plan
+    ensures { λ r. ⌜ r ≡ refusedAt k ⌝ }
+{
     match k {
         0 => paper(0, 3),
         1 => slope(4, 9, [40, 30, 50, 55], 60, [140, 170, 200, 199]),
