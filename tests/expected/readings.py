@@ -72,16 +72,17 @@ SENSORS = {1: (11, (0x01, 0x02, 0x03), 0x05), 3: (12, (0x27,), 0x06)}
 
 
 def held(chip, written, steps):
-    """The temperatures of an image whose bytes are 5Ah but for those written."""
+    """The temperatures of an image whose bytes are 5Ah but for those written: at any other address than its own, a byte would make another."""
     image = [0x5A] * 256
     for address, byte in written.items():
         image[address] = byte
     width, highs, low = SENSORS[chip]
     assert len(highs) == len(steps)
-    for high, is_steps in zip(highs, steps):
-        word = 256 * image[high] + image[low]
-        assert steps_of(width, word) == is_steps
-        print("temperature chip %d at %02X %02X bytes %04X steps %d" % (chip, high, low, word, is_steps))
+    for high, count in zip(highs, steps):
+        counts = lambda h, l: steps_of(width, 256 * image[h] + image[l])
+        assert counts(high, low) == count
+        assert all(count not in (counts(other, low), counts(high, other)) for other in range(256) if other not in (high, low))
+        print("temperature chip %d at %02X %02X bytes %02X%02X steps %d" % (chip, high, low, image[high], image[low], count))
 
 
 def sensors():

@@ -38,6 +38,7 @@ fn on_chip() -> Sensor
     }
 }
 
+// Both bytes are read from the image.
 fn held(chip: u8, image: &[u8], sensor: Sensor) {
     printing::labelled(b"temperature chip ", chip as u64);
     printing::text(b" at ");
@@ -55,7 +56,7 @@ fn held(chip: u8, image: &[u8], sensor: Sensor) {
     printing::line_end();
 }
 
-// Every byte but theirs is 5Ah, also that of LTD at 04h.
+// Every byte but theirs is 5Ah, also that of LTD at 04h, and would make another temperature.
 fn remote_diodes(rtd1: u8, rtd2: u8, rtd3: u8, low: u8) {
     let mut image = [FILL; 256];
     image[0x01] = rtd1;
