@@ -18,10 +18,11 @@
  * a refused yk_sample still carries the watch, unchanged.) Where several refusals apply, the
  * answer is the first in the order in which the prototype's comment lists them.
  *
- * BUFFERS. A buffer is a pointer and then its length in bytes. Bytes past the length are neither
- * read nor written. A pointer must not be null, not even with length 0. A buffer that is written
- * (image of yk_write, yk_reset and yk_play; out) must not overlap another buffer of the same
- * call: to play a table of an image onto the same image, copy the table's bytes out first.
+ * BUFFERS. A buffer is a pointer and then its length in bytes (of yk_run: in samples). What lies
+ * past the length is neither read nor written. A pointer must not be null, not even with length 0.
+ * A buffer that is written (image of yk_write, yk_reset and yk_play; out) must not overlap another
+ * buffer of the same call: to play a table of an image onto the same image, copy the table's bytes
+ * out first.
  *
  * AN IMAGE is the 256 register bytes of one chip, indexed by address (chip 1: bank 0). Any other
  * length is refused with 8. Functions work on the image only; the caller moves bytes between the
