@@ -1,4 +1,4 @@
--- A column has 256 numbers, each that of its address; and a row is what the card's three columns hold at its address.
+-- A column has a number for each position, that of the position; and a row is what the card's three columns hold at its address.
 -- Assumes nothing.
 use Prim.Native.Nat.{ℕ, zero, suc, _+_, _<_}
 use native.Mathlib.Nat.{add-zero, zero-add, add-suc, suc-add, le-of-suc-le-suc, not-suc-le-zero}
@@ -18,17 +18,17 @@ run-at f first (suc n) zero h = ap f (sym (add-zero first))
 run-at f first (suc n) (suc k) h =
     run-at f (suc first) n k (le-of-suc-le-suc h) ∙ ap f (suc-add first k ∙ sym (add-suc first k))
 
-pub column-length : (f : ℕ → ℕ) → length (column f) ≡ 256
+pub column-length : (n : ℕ) (f : ℕ → ℕ) → length (column n f) ≡ n
 unfolding column
-column-length f = run-length f 0 256
+column-length n f = run-length f 0 n
 
-pub column-at : (f : ℕ → ℕ) (address : ℕ) → address < 256 → getD (column f) address 0 ≡ f address
+pub column-at : (n : ℕ) (f : ℕ → ℕ) (position : ℕ) → position < n → getD (column n f) position 0 ≡ f position
 unfolding column
-column-at f address h = run-at f 0 256 address h ∙ ap f (zero-add address)
+column-at n f position h = run-at f 0 n position h ∙ ap f (zero-add position)
 
 -- one of the card's three columns
 abbrev pub columnOf : (Row → ℕ) → List Line → List ℕ
-columnOf part lines = column (λ address. part (rowIn lines address))
+columnOf part lines = column 256 (λ address. part (rowIn lines address))
 
 pub row-of-columns : (lines : List Line) (address : ℕ) → address < 256
     → row (getD (columnOf (λ r. r .writable) lines) address 0) (getD (columnOf (λ r. r .clears) lines) address 0)
@@ -36,4 +36,4 @@ pub row-of-columns : (lines : List Line) (address : ℕ) → address < 256
     ≡ rowIn lines address
 row-of-columns lines address h =
     rw
-    (column-at (λ a. rowIn lines a .writable) address h, column-at (λ a. rowIn lines a .clears) address h, column-at (λ a. rowIn lines a .«power_on») address h)
+    (column-at 256 (λ a. rowIn lines a .writable) address h, column-at 256 (λ a. rowIn lines a .clears) address h, column-at 256 (λ a. rowIn lines a .«power_on») address h)

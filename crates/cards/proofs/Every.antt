@@ -1,4 +1,4 @@
--- Tests of a whole list, and what each says of an entry: by induction over the list.
+-- A test computed once over a list, carried to each entry; and lists of distinct numbers: by induction over the list.
 -- Assumes nothing.
 use Prim.Native.Nat.{ℕ, zero, suc, _<_}
 use native.Mathlib.Nat.{le-of-suc-le-suc, not-suc-le-zero}
@@ -14,11 +14,14 @@ abbrev pub every : {A : Type 0} → (A → Bool) → List A → Bool
 every test [] = true
 every test (a ∷ l) = test a && every test l
 
+pub both : (a b : Bool) → So (a && b) → So a × So b
+both a b t = and-eq-true-iff a b .0 t
+
 pub of-every : {A : Type 0} (test : A → Bool) (l : List A) (other : A) → So (every test l) → (k : ℕ) → k < length l → So (test (getD l k other))
 of-every test [] other t k h = absurd (not-suc-le-zero h)
-of-every test (a ∷ l) other t zero h = and-eq-true-iff (test a) (every test l) .0 t .0
+of-every test (a ∷ l) other t zero h = both (test a) (every test l) t .0
 of-every test (a ∷ l) other t (suc k) h =
-    of-every test l other (and-eq-true-iff (test a) (every test l) .0 t .1) k (le-of-suc-le-suc h)
+    of-every test l other (both (test a) (every test l) t .1) k (le-of-suc-le-suc h)
 
 abbrev pub distinct : List ℕ → Bool
 distinct [] = true
@@ -33,8 +36,8 @@ pub apart : (ps : List ℕ) → So (distinct ps) → (j k : ℕ) → j < length 
 apart [] t j k h l e = absurd (not-suc-le-zero h)
 apart (p ∷ ps) t zero zero h l e = refl
 apart (p ∷ ps) t zero (suc k) h l e =
-    absurd (differs p ps (and-eq-true-iff (every (λ q. not (eqb p q)) ps) (distinct ps) .0 t .0) k (le-of-suc-le-suc l) e)
+    absurd (differs p ps (both (every (λ q. not (eqb p q)) ps) (distinct ps) t .0) k (le-of-suc-le-suc l) e)
 apart (p ∷ ps) t (suc j) zero h l e =
-    absurd (differs p ps (and-eq-true-iff (every (λ q. not (eqb p q)) ps) (distinct ps) .0 t .0) j (le-of-suc-le-suc h) (sym e))
+    absurd (differs p ps (both (every (λ q. not (eqb p q)) ps) (distinct ps) t .0) j (le-of-suc-le-suc h) (sym e))
 apart (p ∷ ps) t (suc j) (suc k) h l e =
-    ap suc (apart ps (and-eq-true-iff (every (λ q. not (eqb p q)) ps) (distinct ps) .0 t .1) j k (le-of-suc-le-suc h) (le-of-suc-le-suc l) e)
+    ap suc (apart ps (both (every (λ q. not (eqb p q)) ps) (distinct ps) t .1) j k (le-of-suc-le-suc h) (le-of-suc-le-suc l) e)

@@ -8,7 +8,7 @@ use lib.Dec.{eqb}
 use Rattle.cards.specs.declared.Chip.{Chip}
 use Rattle.cards.specs.declared.Chip.the-variants.{Nct7802y, F75373s, Nct80}
 use Rattle.cards.specs.Rows.{Table}
-use Rattle.cards.specs.Cards.{rowOf, tablesOf}
+use Rattle.cards.specs.Cards.{sheetOf, rowOf, tablesOf}
 use Rattle.cards.specs.Nct7802y as nct7802y
 use Rattle.cards.specs.F75373s as f75373s
 use Rattle.cards.specs.Nct80 as nct80
@@ -58,5 +58,5 @@ agree [] = true
 agree (p ∷ ps) = eqb (p .0) (p .1) && agree ps
 
 pub fixed-points : So (agree points)
-unfolding agree points rowOf nct7802y.card f75373s.card nct80.card
+unfolding agree points sheetOf rowOf nct7802y.card f75373s.card nct80.card
 fixed-points = refl

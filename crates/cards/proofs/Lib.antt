@@ -1,8 +1,8 @@
 pub mod Columns
 pub mod Every
+pub mod Sound
 pub mod Apart
 pub mod Lines
-pub mod Fixed
 pub mod FixedPoints
 pub mod Registers
 pub mod Tables

@@ -5,11 +5,10 @@ use mathlib.Core.Path.{refl}
 use mathlib.Core.Bool.{So}
 use mathlib.Core.List.{List, [], _∷_}
 use lib.ListN.{length, getD}
+use Rattle.cards.specs.declared.Chip.{Chip}
 use Rattle.cards.specs.declared.Chip.the-variants.{Nct7802y, F75373s, Nct80}
-use Rattle.cards.specs.Rows.{positions}
-use Rattle.cards.specs.Cards.{tablesOf, tableOf}
-use Rattle.cards.specs.Nct7802y as nct7802y
-use Rattle.cards.specs.Nct80 as nct80
+use Rattle.cards.specs.Rows.{Reading, positions}
+use Rattle.cards.specs.Cards.{sheetOf, tablesOf, tableOf}
 use Rattle.cards.proofs.FixedPoints.{Point, agree}
 
 -- where the values of a table of chip 1 stand, by its number: T1 to T4, critical, FL1 to FL4
@@ -31,6 +30,10 @@ high number k = getD (tableOf F75373s number .speeds) (2 * (k - 1)) 0
 
 abbrev low : ℕ → ℕ → ℕ
 low number k = getD (tableOf F75373s number .speeds) (2 * (k - 1) + 1) 0
+
+-- where a chip's temperatures stand
+abbrev temperature : Chip → Reading
+temperature chip = getD (sheetOf chip .temperatures) 0 (record { width = 0; high = []; low = 0x00; bits = 0x00 })
 
 unfoldable pub registers : List Point
 registers =
@@ -56,12 +59,14 @@ registers =
     ∷ (length (positions (tableOf Nct7802y 1)), 9) ∷ (length (positions (tableOf Nct7802y 2)), 9) ∷ (length (positions (tableOf Nct7802y 3)), 9)
     ∷ (length (positions (tableOf F75373s 1)), 14) ∷ (length (positions (tableOf F75373s 2)), 14)
     -- "chip 1: high byte and bits 7 to 5 of 05h"; source document 000: "MNTRTD1[10:3]" at 01h, "MNTRTD2[10:3]" at 02h, "MNTRTD3[10:3]" at 03h
-    ∷ (nct7802y.temperature .low, 0x05) ∷ (nct7802y.temperature .bits, 0xE0) ∷ (length (nct7802y.temperature .high), 3)
-    ∷ (getD (nct7802y.temperature .high) 0 0, 0x01) ∷ (getD (nct7802y.temperature .high) 1 0, 0x02) ∷ (getD (nct7802y.temperature .high) 2 0, 0x03)
+    ∷ (temperature Nct7802y .low, 0x05) ∷ (temperature Nct7802y .bits, 0xE0) ∷ (length (temperature Nct7802y .high), 3)
+    ∷ (getD (temperature Nct7802y .high) 0 0, 0x01) ∷ (getD (temperature Nct7802y .high) 1 0, 0x02) ∷ (getD (temperature Nct7802y .high) 2 0, 0x03)
     -- "chip 3: 27h and bits 7 to 4 of 06h"
-    ∷ (nct80.temperature .low, 0x06) ∷ (nct80.temperature .bits, 0xF0) ∷ (length (nct80.temperature .high), 1) ∷ (getD (nct80.temperature .high) 0 0, 0x27)
+    ∷ (temperature Nct80 .low, 0x06) ∷ (temperature Nct80 .bits, 0xF0) ∷ (length (temperature Nct80 .high), 1) ∷ (getD (temperature Nct80 .high) 0 0, 0x27)
+    -- and no others
+    ∷ (length (sheetOf Nct7802y .temperatures), 1) ∷ (length (sheetOf F75373s .temperatures), 0) ∷ (length (sheetOf Nct80 .temperatures), 1)
     ∷ []
 
 pub registers-stand : So (agree registers)
-unfolding agree registers
+unfolding agree registers sheetOf
 registers-stand = refl

@@ -6,13 +6,20 @@ use Rattle.cards.specs.declared.Chip.{Chip}
 use Rattle.cards.specs.declared.Named.{Named}
 use Rattle.cards.specs.declared.Place.{Place}
 use Rattle.cards.specs.declared.Row.{Row}
-use Rattle.cards.specs.Cards.{Names, Finds, Places}
+use Rattle.cards.specs.declared.Required.{Required}
+use Rattle.cards.specs.Cards.{Names, Finds, Lists, Requires, Places}
 
 pub names-unique : {number : ℕ} {r s : Named} → Names number r → Names number s → r ≡ s
 names-unique p q = p .answer ∙ sym (q .answer)
 
 pub finds-unique : {chip : Chip} {address : ℕ} {r s : Row} → Finds chip address r → Finds chip address s → r ≡ s
 finds-unique p q = p .answer ∙ sym (q .answer)
+
+pub lists-unique : {chip : Chip} {r s : ℕ} → Lists chip r → Lists chip s → r ≡ s
+lists-unique p q = p .answer ∙ sym (q .answer)
+
+pub requires-unique : {chip : Chip} {k : ℕ} {r s : Required} → Requires chip k r → Requires chip k s → r ≡ s
+requires-unique p q = p .answer ∙ sym (q .answer)
 
 pub places-unique : {chip : Chip} {number : ℕ} {r s : Place} → Places chip number r → Places chip number s → r ≡ s
 places-unique p q = p .answer ∙ sym (q .answer)

@@ -3,7 +3,7 @@
 use Prim.Native.Nat.{ℕ, _-_}
 use mathlib.Core.Bool.{Bool, true, false, cond, not, _&&_}
 use mathlib.Core.Path.{_≡_}
-use mathlib.Core.List.{List, []}
+use mathlib.Core.List.{List, [], _∷_}
 use lib.Dec.{eqb, leb}
 use lib.ListN.{length, getD}
 use Rattle.cards.specs.declared.Chip.{Chip}
@@ -11,30 +11,39 @@ use Rattle.cards.specs.declared.Chip.the-variants.{Nct7802y, F75373s, Nc
 use Rattle.cards.specs.declared.Named.{Named}
 use Rattle.cards.specs.declared.Named.the-variants.{Known, Unknown}
 use Rattle.cards.specs.declared.Row.{Row}
+use Rattle.cards.specs.declared.Required.{Required}
 use Rattle.cards.specs.declared.Place.{Place}
 use Rattle.cards.specs.declared.Place.the-variants.{At, Nowhere}
-use Rattle.cards.specs.Rows.{Line, Table, rowIn, column}
+use Rattle.cards.specs.Rows.{Line, Table, inARow, requiredIn, rowIn}
+use Rattle.cards.specs.Sheets.{Sheet, powerOnIn}
 use Rattle.cards.specs.Nct7802y as nct7802y
 use Rattle.cards.specs.F75373s as f75373s
 use Rattle.cards.specs.Nct80 as nct80
+
+-- The page of each chip. Beside the list of chips it is all that goes by the chip: everything else is read off a page.
+unfoldable pub sheetOf : Chip → Sheet
+sheetOf Nct7802y = nct7802y.sheet
+sheetOf F75373s = f75373s.sheet
+sheetOf Nct80 = nct80.sheet
+
+abbrev pub chips : List Chip
+chips = Nct7802y ∷ F75373s ∷ Nct80 ∷ []
 
 -- what the named chip gives, or what stands in where none is named
 abbrev pub whenKnown : {A : Type 0} → Named → (Chip → A) → A → A
 whenKnown (Known chip) f none = f chip
 whenKnown Unknown f none = none
 
--- "Chip 1 is the Nuvoton NCT7802Y (source document 000), chip 2 the Fintek F75373S (002), chip 3 the onsemi NCT80 (004)."
-abbrev pub chipOf : ℕ → Named
-chipOf number =
-    cond (eqb number 1) (Known Nct7802y)
-    (cond (eqb number 2) (Known F75373s)
-    (cond (eqb number 3) (Known Nct80)
-    Unknown))
-
 abbrev pub chipNumber : Chip → ℕ
-chipNumber Nct7802y = 1
-chipNumber F75373s = 2
-chipNumber Nct80 = 3
+chipNumber chip = sheetOf chip .number
+
+-- the chip of that number among some
+abbrev pub chipAmong : List Chip → ℕ → Named
+chipAmong [] number = Unknown
+chipAmong (c ∷ cs) number = cond (eqb number (chipNumber c)) (Known c) (chipAmong cs number)
+
+abbrev pub chipOf : ℕ → Named
+chipOf number = chipAmong chips number
 
 -- "Where the answer is an enum, there is a definition that gives this paper's number and values for each of its cases": 0 and the chip's number, or 3
 abbrev pub tellsNamed : Named → ℕ × ℕ
@@ -46,22 +55,17 @@ abbrev pub unknown : ℕ → Bool
 unknown number = whenKnown (chipOf number) (λ chip. false) true
 
 abbrev pub cardOf : Chip → List Line
-cardOf Nct7802y = nct7802y.card
-cardOf F75373s = f75373s.card
-cardOf Nct80 = nct80.card
+cardOf chip = sheetOf chip .card
 
 unfoldable pub rowOf : Chip → ℕ → Row
 rowOf chip address = rowIn (cardOf chip) address
 
--- "Reset fills the image with the power-on column."
-unfoldable pub powerOn : Chip → List ℕ
-powerOn chip = column (λ address. rowOf chip address .«power_on»)
+abbrev pub powerOn : Chip → List ℕ
+powerOn chip = powerOnIn (sheetOf chip)
 
 -- refusal 4 goes by these: "chip 1: 1 to 3; chip 2: 1 and 2; chip 3: none"
 abbrev pub tablesOf : Chip → List Table
-tablesOf Nct7802y = nct7802y.tables
-tablesOf F75373s = f75373s.tables
-tablesOf Nct80 = []
+tablesOf chip = sheetOf chip .tables
 
 abbrev pub hasTable : Chip → ℕ → Bool
 hasTable chip number = leb 1 number && leb number (length (tablesOf chip))
@@ -69,11 +73,9 @@ hasTable chip number = leb 1 number && leb number (length (tablesOf chip))
 abbrev pub tableOf : Chip → ℕ → Table
 tableOf chip number = getD (tablesOf chip) (number - 1) (record { settings = []; speeds = [] })
 
--- the table of a chip that begins at a base
+-- the table of a chip that begins at a base: a chip's tables are as long as its first, and each stands in a row
 abbrev pub tableFrom : Chip → ℕ → Table
-tableFrom Nct7802y base = nct7802y.table base
-tableFrom F75373s base = f75373s.table base
-tableFrom Nct80 base = record { settings = []; speeds = [] }
+tableFrom chip base = inARow base (length (tableOf chip 1 .settings)) (length (tableOf chip 1 .speeds))
 
 -- where a chip's table begins: at its first setting
 abbrev pub baseOf : Chip → ℕ → ℕ
@@ -99,6 +101,14 @@ pub record Names (number : ℕ) (named : Named) : Type 0 where
 -- what `cards::row_of` promises
 pub record Finds (chip : Chip) (address : ℕ) (row : Row) : Type 0 where
   pub answer : row ≡ rowOf chip address
+
+-- what `cards::required_count` promises
+pub record Lists (chip : Chip) (count : ℕ) : Type 0 where
+  pub answer : count ≡ length (sheetOf chip .identity)
+
+-- what `cards::required_of` promises
+pub record Requires (chip : Chip) (k : ℕ) (required : Required) : Type 0 where
+  pub answer : required ≡ requiredIn (sheetOf chip .identity) k
 
 -- what `cards::table_at` promises
 pub record Places (chip : Chip) (number : ℕ) (place : Place) : Type 0 where

@@ -3,7 +3,9 @@
 -- Assumes nothing.
 use Prim.Native.Nat.{ℕ, _+_}
 use mathlib.Core.List.{List, [], _∷_}
-use Rattle.cards.specs.Rows.{Line, Required, Table, from}
+use Rattle.cards.specs.declared.Required.{Required}
+use Rattle.cards.specs.Rows.{Line, required, Table, from}
+use Rattle.cards.specs.Sheets.{Sheet}
 
 unfoldable pub card : List Line
 card =
@@ -108,7 +110,7 @@ card =
 
 -- "Identity": "5Ah, 5Bh, 5Dh, 5Eh hold 02h, 04h, 19h, 34h. Confirmed means all of them."
 abbrev pub identity : List Required
-identity = (0x5A, 0xFF, 0x02) ∷ (0x5B, 0xFF, 0x04) ∷ (0x5D, 0xFF, 0x19) ∷ (0x5E, 0xFF, 0x34) ∷ []
+identity = required 0x5A 0xFF 0x02 ∷ required 0x5B 0xFF 0x04 ∷ required 0x5D 0xFF 0x19 ∷ required 0x5E 0xFF 0x34 ∷ []
 
 -- "fan 1 has B1 to B4 at A0h to A3h and C1 to C5 from A4h to ADh, high byte first; fan 2 the same from B0h"
 abbrev pub table : ℕ → Table
@@ -116,3 +118,6 @@ table base = record { settings = from base 4; speeds = from (base + 4) 10 }
 
 abbrev pub tables : List Table
 tables = table 0xA0 ∷ table 0xB0 ∷ []
+
+abbrev pub sheet : Sheet
+sheet = record { number = 2; size = 256; card = card; identity = identity; tables = tables; temperatures = [] }

@@ -1,4 +1,5 @@
 pub mod Rows
+pub mod Sheets
 pub mod Nct7802y
 pub mod F75373s
 pub mod Nct80

@@ -3,7 +3,9 @@
 -- Assumes nothing.
 use Prim.Native.Nat.{ℕ, _+_}
 use mathlib.Core.List.{List, [], _∷_}
-use Rattle.cards.specs.Rows.{Line, Required, Reading, Table, from}
+use Rattle.cards.specs.declared.Required.{Required}
+use Rattle.cards.specs.Rows.{Line, required, Reading, Table, from}
+use Rattle.cards.specs.Sheets.{Sheet}
 
 unfoldable pub card : List Line
 card =
@@ -166,15 +168,15 @@ card =
 abbrev pub identity : List Required
 identity =
     -- "FDh holds 50h"
-    (0xFD, 0xFF, 0x50)
+    required 0xFD 0xFF 0x50
     -- "FEh holds C3h"
-    ∷ (0xFE, 0xFF, 0xC3)
+    ∷ required 0xFE 0xFF 0xC3
     -- "the upper four bits of FFh are 2"
-    ∷ (0xFF, 0xF0, 0x20)
+    ∷ required 0xFF 0xF0 0x20
     -- "bits 4 to 0 of 05h are zero"
-    ∷ (0x05, 0x1F, 0x00)
+    ∷ required 0x05 0x1F 0x00
     -- "bits 5 to 0 of 08h are zero"
-    ∷ (0x08, 0x3F, 0x00)
+    ∷ required 0x08 0x3F 0x00
     ∷ []
 
 -- "Readings": "1/8 at 11 (chip 1: high byte and bits 7 to 5 of 05h)". The sheet has three such high bytes, of the remote diodes RTD1 to RTD3, and
@@ -188,3 +190,6 @@ table base = record { settings = from base 5; speeds = from (base + 5) 4 }
 
 abbrev pub tables : List Table
 tables = table 0x80 ∷ table 0x90 ∷ table 0xA0 ∷ []
+
+abbrev pub sheet : Sheet
+sheet = record { number = 1; size = 256; card = card; identity = identity; tables = tables; temperatures = temperature ∷ [] }

@@ -3,6 +3,7 @@
 -- Assumes nothing.
 use mathlib.Core.List.{List, [], _∷_}
 use Rattle.cards.specs.Rows.{Line, Reading}
+use Rattle.cards.specs.Sheets.{Sheet}
 
 unfoldable pub card : List Line
 card =
@@ -52,3 +53,7 @@ card =
 -- "Readings": "1/16 at 12 (chip 3: 27h and bits 7 to 4 of 06h)"
 abbrev pub temperature : Reading
 temperature = record { width = 12; high = 0x27 ∷ []; low = 0x06; bits = 0xF0 }
+
+-- "it has no identity rule here"; "chip 3: none" of the fan tables
+abbrev pub sheet : Sheet
+sheet = record { number = 3; size = 256; card = card; identity = []; tables = []; temperatures = temperature ∷ [] }

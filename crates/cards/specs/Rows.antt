@@ -1,18 +1,24 @@
 -- "Register cards": what a card's lines say of each of the 256 addresses.
 -- Assumes nothing.
-use Prim.Native.Nat.{ℕ, zero, suc}
+use Prim.Native.Nat.{ℕ, zero, suc, _+_}
 use mathlib.Core.Bool.{cond}
 use mathlib.Core.List.{List, [], _∷_, _++_}
 use lib.Dec.{eqb}
+use lib.ListN.{getD}
 use Rattle.cards.specs.declared.Row.{Row}
+use Rattle.cards.specs.declared.Required.{Required}
 
 -- a register of the sheet: its address, its writable bits, its bits that clear on one, its power-on value
 abbrev pub Line : Type 0
 Line = ℕ × ℕ × ℕ × ℕ
 
--- a register that identity looks at: its address, the bits that count, and what these hold
-abbrev pub Required : Type 0
-Required = ℕ × ℕ × ℕ
+-- a register that identity looks at: its position, the bits that count, and what these hold
+abbrev pub required : ℕ → ℕ → ℕ → Required
+required position bits value = record { position = position; bits = bits; value = value }
+
+-- the k-th of some, and no bit of any register behind the last
+abbrev pub requiredIn : List Required → ℕ → Required
+requiredIn identity k = getD identity k (required 0 0x00 0x00)
 
 -- where a chip holds temperatures: their width, the address of each sensor's high byte, the address of the low byte that the sensors share, and
 -- which bits of it count
@@ -48,6 +54,10 @@ run f first (suc n) = f first ∷ run f (suc first) n
 abbrev pub from : ℕ → ℕ → List ℕ
 from first n = run (λ address. address) first n
 
--- a number for "each of the 256 addresses"
-unfoldable pub column : (ℕ → ℕ) → List ℕ
-column f = run f 0 256
+-- a table whose registers stand in a row
+abbrev pub inARow : ℕ → ℕ → ℕ → Table
+inARow base settings speeds = record { settings = from base settings; speeds = from (base + settings) speeds }
+
+-- a number for each of n positions, as "each of the 256 addresses"
+unfoldable pub column : ℕ → (ℕ → ℕ) → List ℕ
+column n f = run f 0 n

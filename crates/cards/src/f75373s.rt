@@ -1,9 +1,11 @@
-// The register card of the F75373S, a column to a file.
+// The F75373S: its register card, a column to a file, its identity and where its fan tables begin.
 mod clears;
 mod power_on;
 mod writable;
 
+use crate::NOTHING;
 use crate::Place;
+use crate::Required;
 use crate::Row;
 use clears::CLEARS;
 use power_on::POWER_ON;
@@ -11,8 +13,8 @@ use writable::WRITABLE;
 ghost use mathlib.Core.Path.{_≡_};
 ghost use Rattle.cards.specs.Cards.{Places};
 ghost use Rattle.cards.specs.declared.Chip.the-variants.{F75373s};
-ghost use Rattle.cards.specs.F75373s.{card};
-ghost use Rattle.cards.specs.Rows.{rowIn};
+ghost use Rattle.cards.specs.F75373s.{card, identity};
+ghost use Rattle.cards.specs.Rows.{requiredIn, rowIn};
 
 pub(crate) fn row(address: u8) -> Row
     ensures { λ r. ⌜ r ≡ rowIn card address ⌝ }
@@ -23,6 +25,41 @@ pub(crate) fn row(address: u8) -> Row
         clears: CLEARS[at],
         power_on: POWER_ON[at],
     }
+}
+
+pub(crate) const REQUIRED: usize = 4;
+
+// The registers that identity looks at, all of them required.
+const IDENTITY: [Required; REQUIRED] = [
+    Required {
+        position: 0x5A,
+        bits: 0xFF,
+        value: 0x02,
+    },
+    Required {
+        position: 0x5B,
+        bits: 0xFF,
+        value: 0x04,
+    },
+    Required {
+        position: 0x5D,
+        bits: 0xFF,
+        value: 0x19,
+    },
+    Required {
+        position: 0x5E,
+        bits: 0xFF,
+        value: 0x34,
+    },
+];
+
+pub(crate) fn required(k: usize) -> Required
+    ensures { λ r. ⌜ r ≡ requiredIn identity k ⌝ }
+{
+    if REQUIRED <= k {
+        return NOTHING;
+    }
+    IDENTITY[k]
 }
 
 pub(crate) fn table_at(number: u8) -> Place

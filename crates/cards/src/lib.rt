@@ -1,9 +1,9 @@
-// The chips, their numbers, and for each register what of it may be written, what clears on one, and what it holds at power-on.
+// The chips, and what is known of each: a module for a chip has its page.
 mod f75373s;
 mod nct7802y;
 mod nct80;
 
-ghost use Rattle.cards.specs.Cards.{Names, Finds, Places};
+ghost use Rattle.cards.specs.Cards.{Names, Finds, Lists, Requires, Places};
 
 pub enum Chip {
     Nct7802y,
@@ -24,11 +24,24 @@ pub struct Row {
     pub power_on: u8,
 }
 
+// A register that identity looks at: the bits that count, and what these hold.
+pub struct Required {
+    pub position: usize,
+    pub bits: u8,
+    pub value: u8,
+}
+
 // Where a fan table begins, if there is one.
 pub enum Place {
     At(u8),
     Nowhere,
 }
+
+const NOTHING: Required = Required {
+    position: 0,
+    bits: 0x00,
+    value: 0x00,
+};
 
 // The chip of a chip number, and none for every other number.
 pub fn chip_of(number: u8) -> Named
@@ -50,6 +63,28 @@ pub fn row_of(chip: Chip, address: u8) -> Row
         Chip::Nct7802y => nct7802y::row(address),
         Chip::F75373s => f75373s::row(address),
         Chip::Nct80 => nct80::row(address),
+    }
+}
+
+// How many registers the chip's identity looks at. Where there are none, nothing is confirmed.
+pub fn required_count(chip: Chip) -> usize
+    ensures { λ r. ⌜ Lists chip r ⌝ }
+{
+    match chip {
+        Chip::Nct7802y => nct7802y::REQUIRED,
+        Chip::F75373s => f75373s::REQUIRED,
+        Chip::Nct80 => 0,
+    }
+}
+
+// The k-th of them, and no bit of any register behind the last.
+pub fn required_of(chip: Chip, k: usize) -> Required
+    ensures { λ r. ⌜ Requires chip k r ⌝ }
+{
+    match chip {
+        Chip::Nct7802y => nct7802y::required(k),
+        Chip::F75373s => f75373s::required(k),
+        Chip::Nct80 => NOTHING,
     }
 }
 

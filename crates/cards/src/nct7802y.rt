@@ -1,9 +1,11 @@
-// The register card of the NCT7802Y, a column to a file.
+// The NCT7802Y: its register card, a column to a file, its identity and where its fan tables begin.
 mod clears;
 mod power_on;
 mod writable;
 
+use crate::NOTHING;
 use crate::Place;
+use crate::Required;
 use crate::Row;
 use clears::CLEARS;
 use power_on::POWER_ON;
@@ -11,8 +13,8 @@ use writable::WRITABLE;
 ghost use mathlib.Core.Path.{_≡_};
 ghost use Rattle.cards.specs.Cards.{Places};
 ghost use Rattle.cards.specs.declared.Chip.the-variants.{Nct7802y};
-ghost use Rattle.cards.specs.Nct7802y.{card};
-ghost use Rattle.cards.specs.Rows.{rowIn};
+ghost use Rattle.cards.specs.Nct7802y.{card, identity};
+ghost use Rattle.cards.specs.Rows.{requiredIn, rowIn};
 
 pub(crate) fn row(address: u8) -> Row
     ensures { λ r. ⌜ r ≡ rowIn card address ⌝ }
@@ -23,6 +25,46 @@ pub(crate) fn row(address: u8) -> Row
         clears: CLEARS[at],
         power_on: POWER_ON[at],
     }
+}
+
+pub(crate) const REQUIRED: usize = 5;
+
+// The registers that identity looks at, all of them required.
+const IDENTITY: [Required; REQUIRED] = [
+    Required {
+        position: 0xFD,
+        bits: 0xFF,
+        value: 0x50,
+    },
+    Required {
+        position: 0xFE,
+        bits: 0xFF,
+        value: 0xC3,
+    },
+    Required {
+        position: 0xFF,
+        bits: 0xF0,
+        value: 0x20,
+    },
+    Required {
+        position: 0x05,
+        bits: 0x1F,
+        value: 0x00,
+    },
+    Required {
+        position: 0x08,
+        bits: 0x3F,
+        value: 0x00,
+    },
+];
+
+pub(crate) fn required(k: usize) -> Required
+    ensures { λ r. ⌜ r ≡ requiredIn identity k ⌝ }
+{
+    if REQUIRED <= k {
+        return NOTHING;
+    }
+    IDENTITY[k]
 }
 
 pub(crate) fn table_at(number: u8) -> Place

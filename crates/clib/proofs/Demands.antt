@@ -5,6 +5,7 @@ use mathlib.Core.Path.{_≡_, refl, sym, ap, _∙_}
 use mathlib.Core.Bool.{Bool, true, false, cond, not}
 use mathlib.Core.List.{List, [], _∷_}
 use lib.IntN.{ℤ, pos}
+use lib.ListN.{length}
 use borrow.Author.Tests.{not-false}
 use Rattle.refusal.specs.declared.Outcome.the-variants.{Accepted}
 use Rattle.refusal.specs.Refusals.{numberOf}
@@ -14,7 +15,8 @@ use Rattle.cards.specs.declared.Chip.{Chip}
 use Rattle.cards.specs.declared.Named.{Named}
 use Rattle.cards.specs.declared.Named.the-variants.{Known}
 use Rattle.cards.specs.declared.Place.{Place}
-use Rattle.cards.specs.Cards.{chipOf, unknown, hasTable, rowOf, baseOf, tellsNamed, tellsPlace, Names, Places}
+use Rattle.cards.specs.Rows.{requiredIn}
+use Rattle.cards.specs.Cards.{sheetOf, chipOf, unknown, hasTable, rowOf, baseOf, tellsNamed, tellsPlace, Names, Places}
 use Rattle.cards.proofs.Told.{names-told, places-told}
 use Rattle.cards.specs.Identity.{confirmed}
 use Rattle.images.specs.Images.{imageChecks}
@@ -65,6 +67,8 @@ demand-1 =
       number = λ refusal. record { answer = numberOf refusal; kept = record { answer = refl } };
       chip-of = named-answered;
       row-of = λ chip address. record { answer = rowOf chip address; kept = record { answer = refl } };
+      required-count = λ chip. record { answer = length (sheetOf chip .identity); kept = record { answer = refl } };
+      required-of = λ chip k. record { answer = requiredIn (sheetOf chip .identity) k; kept = record { answer = refl } };
       table-at = placed-answered;
       write = λ chip old address byte r new p. (verdict-answered r _ (p .answer), left-kept (imageChecks chip old) _ (p .answer) (p .bytes));
       read = λ chip image address r p. told-answered 0 _ _ (p .answer);

@@ -10,7 +10,7 @@ use lib.Dec.{eqb}
 use lib.IntN.{ℤ, pos, negℤ}
 use lib.ListN.{length, getD, replicate}
 use Rattle.refusal.specs.Checks.{first, told, toldOr}
-use Rattle.cards.specs.Cards.{chipOf, whenKnown, tableOf}
+use Rattle.cards.specs.Cards.{sheetOf, chipOf, whenKnown, tableOf}
 use Rattle.cards.specs.Identity.{confirmed}
 use Rattle.curves.specs.declared.Plan.{Plan}
 use Rattle.curves.specs.Curves as curves
@@ -201,5 +201,5 @@ figures =
     ∷ []
 
 pub figures-hold : AllHold figures
-unfolding agree figures factsOf confirmed curves.words curves.slope curves.steps textOf endLine decimal
+unfolding sheetOf agree figures factsOf confirmed curves.words curves.slope curves.steps textOf endLine decimal
 figures-hold = each figures refl

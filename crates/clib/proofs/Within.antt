@@ -18,7 +18,7 @@ use Rattle.cards.specs.declared.Named.the-variants.{Known, Unknown}
 use Rattle.cards.specs.Rows.{Table}
 use Rattle.cards.specs.Nct7802y as nct7802y
 use Rattle.cards.specs.F75373s as f75373s
-use Rattle.cards.specs.Cards.{chipOf, whenKnown, tableOf}
+use Rattle.cards.specs.Cards.{sheetOf, chipOf, whenKnown, tableOf}
 use Rattle.curves.specs.declared.Plan.{Plan}
 use Rattle.curves.specs.Curves.{points}
 use Rattle.curves.specs.Orders.{fulls}
@@ -56,6 +56,7 @@ nth-short (t ∷ ts) zero h = h .0
 nth-short (t ∷ ts) (suc k) h = nth-short ts k (h .1)
 
 table-short : (chip : Chip) (number : ℕ) → (length (tableOf chip number .settings) ≤ 5) × (length (tableOf chip number .speeds) ≤ 10)
+unfolding sheetOf
 table-short Nct7802y number =
     nth-short nct7802y.tables (number - 1) ((omega arith, omega arith), ((omega arith, omega arith), ((omega arith, omega arith), tt)))
 table-short F75373s number = nth-short f75373s.tables (number - 1) ((omega arith, omega arith), ((omega arith, omega arith), tt))

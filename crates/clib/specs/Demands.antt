@@ -19,7 +19,7 @@ use Rattle.cards.specs.declared.Named.{Named}
 use Rattle.cards.specs.declared.Named.the-variants.{Known}
 use Rattle.cards.specs.declared.Row.{Row}
 use Rattle.cards.specs.declared.Place.{Place}
-use Rattle.cards.specs.Cards.{chipOf, unknown, hasTable, tellsNamed, tellsPlace, Names, Finds, Places}
+use Rattle.cards.specs.Cards.{chipOf, unknown, hasTable, tellsNamed, tellsPlace, Names, Finds, Lists, Requires, Places}
 use Rattle.cards.specs.Identity.{confirmed}
 use Rattle.images.specs.declared.ByteRead.{ByteRead}
 use Rattle.images.specs.Images as images
@@ -79,6 +79,8 @@ pub record Demand1 : Type 0 where
   pub number : (refusal : Refusal) → Given (λ n. Numbers refusal n)
   pub chip-of : (number : ℕ) (r : Named) → Names number r → Answered ((unknown number, 3) ∷ []) 0 (tellsNamed r)
   pub row-of : (chip : Chip) (address : ℕ) → Given (λ row. Finds chip address row)
+  pub required-count : (chip : Chip) → Given (λ count. Lists chip count)
+  pub required-of : (chip : Chip) (k : ℕ) → Given (λ required. Requires chip k required)
   pub table-at : (chip : Chip) (number : ℕ) (r : Place) → Places chip number r → Answered ((not (hasTable chip number), 4) ∷ []) 0 (tellsPlace r)
   -- register images
   pub write : (chip : ℕ) (old : List ℕ) (address byte : ℕ) (r : Outcome) (new : List ℕ) → images.Writes chip old address byte r new

@@ -1,46 +1,36 @@
-// Whose an image is: each register that an identity names stands on a line of its own.
+// Whose an image is: every register that the chip's identity names is asked.
 use cards::Chip;
 use cards::Named;
+use cards::Required;
 use refusal::Outcome;
 use refusal::Refusal;
+ghost use Prim.Native.Nat.{_<_};
 ghost use mathlib.Core.Path.{_≡_};
 ghost use lib.ListN.{length};
-ghost use Rattle.cards.specs.Nct7802y as nct7802y;
-ghost use Rattle.cards.specs.F75373s as f75373s;
-ghost use Rattle.cards.specs.Identity.{allHold, confirmed};
+ghost use Rattle.cards.specs.Identity.{holds, confirmed};
 ghost use Rattle.identities.specs.Identities.{Confirms};
 
-fn is_nct7802y(image: &[u8]) -> bool
-    requires { ⌜ length (now image) ≡ 256 ⌝ }
-    ensures { λ r. ⌜ r ≡ allHold (now (image .entry)) nct7802y.identity ⌝ }
+fn holds(image: &[u8], required: Required) -> bool
+    requires { ⌜ required .position < length (now image) ⌝ }
+    ensures { λ r. ⌜ r ≡ holds (now (image .entry)) required ⌝ }
 {
-    (image[0xFD] & 0xFF == 0x50)
-        & (image[0xFE] & 0xFF == 0xC3)
-        & (image[0xFF] & 0xF0 == 0x20)
-        & (image[0x05] & 0x1F == 0x00)
-        & (image[0x08] & 0x3F == 0x00)
+    let at = required.position;
+    image[at] & required.bits == required.value
 }
 
-fn is_f75373s(image: &[u8]) -> bool
-    requires { ⌜ length (now image) ≡ 256 ⌝ }
-    ensures { λ r. ⌜ r ≡ allHold (now (image .entry)) f75373s.identity ⌝ }
-{
-    (image[0x5A] & 0xFF == 0x02)
-        & (image[0x5B] & 0xFF == 0x04)
-        & (image[0x5D] & 0xFF == 0x19)
-        & (image[0x5E] & 0xFF == 0x34)
-}
-
-// No identity is known of the NCT80, so none is confirmed.
+// Where nothing is required, nothing is confirmed.
 fn confirmed(chip: Chip, image: &[u8]) -> bool
     requires { ⌜ length (now image) ≡ 256 ⌝ }
     ensures { λ r. ⌜ r ≡ confirmed chip (now (image .entry)) ⌝ }
 {
-    match chip {
-        Chip::Nct7802y => is_nct7802y(image),
-        Chip::F75373s => is_f75373s(image),
-        Chip::Nct80 => false,
+    let count = cards::required_count(chip);
+    for k in 0..count {
+        let required = cards::required_of(chip, k);
+        if !holds(image, required) {
+            return false;
+        }
     }
+    0 < count
 }
 
 // Whether the image is the chip's, by every bit that its identity names.

@@ -4,31 +4,41 @@ use Prim.Native.Nat.{ℕ, zero, suc, _+_, _*_, _/_, _%_, _^_, _<_, min}
 use native.Mathlib.Nat.{pow-suc, min-zero}
 use native.Mathlib.Omega.{arith}
 use mathlib.Core.Path.{_≡_, refl, sym, ap, ap₂, subst, _∙_}
-use mathlib.Core.Bool.{Bool, true, false, So, cond, _&&_, and-eq-true-iff}
+use mathlib.Core.Bool.{Bool, true, false, So, cond, _&&_}
 use mathlib.Core.List.{List, [], _∷_}
-use borrow.Author.Tests.{eqb-true, eqb-false, ltb-true, ltb-false}
+use borrow.Author.Tests.{eqb-true, eqb-false, lt-ltb, ltb-true, ltb-false}
 use lib.Arith.{lt-one}
 use lib.Bits.{bitAnd, and-step, and-zero-r}
 use lib.Dec.{eqb, ltb}
 use lib.ListN.{length, getD, set}
 use lib.Seq.{getD-set-same, set-out}
 use Rattle.cards.specs.declared.Chip.{Chip}
-use Rattle.cards.specs.declared.Chip.the-variants.{Nct7802y, F75373s, Nct80}
+use Rattle.cards.specs.declared.Chip.the-variants.{Nct7802y, F75373s}
 use Rattle.cards.specs.declared.Row.{Row}
-use Rattle.cards.specs.Rows.{Required, column}
-use Rattle.cards.specs.Cards.{rowOf, powerOn}
-use Rattle.cards.specs.Nct7802y as nct7802y
-use Rattle.cards.specs.F75373s as f75373s
-use Rattle.cards.proofs.Fixed.{fixed, allFixed, nct7802y-fixed, f75373s-fixed}
+use Rattle.cards.specs.declared.Required.{Required}
+use Rattle.cards.specs.Rows.{rowIn}
+use Rattle.cards.specs.Sheets.{Sheet}
+use Rattle.cards.specs.Cards.{sheetOf, rowOf, powerOn}
+use Rattle.cards.specs.Identity.{allHold, agrees, confirmed}
+use Rattle.cards.proofs.Every.{every, both}
+use Rattle.cards.proofs.Sound.{fixed, lasting, sound-sheet}
 use Rattle.images.specs.Bytes.{storedBit, storedBits, stored, storedAt, written}
-use Rattle.cards.specs.Identity.{allHold, confirmed}
 use Rattle.images.proofs.Digits.{bit, digit}
 use Rattle.images.proofs.Laws.{storedAt-other}
 
--- the power-on column is one that chips 1 and 2 confirm as theirs
+agrees-where-some : (image : List ℕ) (rs : List Required) → So (allHold image rs) → agrees image rs ≡ ltb 0 (length rs)
+agrees-where-some image [] t = refl
+agrees-where-some image (r ∷ rs) t = t ∙ sym (lt-ltb 0 (suc (length rs)) (omega arith))
+
+-- a chip that has an identity confirms its power-on column ..
+pub reset-agrees : (chip : Chip) → confirmed chip (powerOn chip) ≡ ltb 0 (length (sheetOf chip .identity))
+unfolding confirmed
+reset-agrees chip = agrees-where-some (powerOn chip) (sheetOf chip .identity) (sound-sheet chip .starts)
+
+-- .. and chips 1 and 2 have one
 pub reset-confirmed : So (confirmed Nct7802y (powerOn Nct7802y) && confirmed F75373s (powerOn F75373s))
-unfolding confirmed powerOn column rowOf nct7802y.card f75373s.card
-reset-confirmed = refl
+unfolding sheetOf
+reset-confirmed = ap₂ _&&_ (reset-agrees Nct7802y) (reset-agrees F75373s)
 
 -- a bit that counts, and is neither writable nor a clear bit, is kept; one that does not count does not matter
 kept-bit : (w c m : Bool) (o x : ℕ) → min (bit w) (bit m) ≡ 0 → min (bit c) (bit m) ≡ 0
@@ -74,8 +84,8 @@ kept-bits (suc n) w c m o x h p q =
 kept-byte : (row : Row) (bits old byte : ℕ) → So (fixed row bits) → bitAnd (stored row old byte) bits ≡ bitAnd old bits
 unfolding stored
 kept-byte row bits old byte t =
-    let parts = and-eq-true-iff (ltb bits (2 ^ 8)) (eqb (bitAnd (row .writable) bits) 0 && eqb (bitAnd (row .clears) bits) 0) .0 t in
-    let masks = and-eq-true-iff (eqb (bitAnd (row .writable) bits) 0) (eqb (bitAnd (row .clears) bits) 0) .0 (parts .1) in
+    let parts = both (ltb bits (2 ^ 8)) _ t in
+    let masks = both (eqb (bitAnd (row .writable) bits) 0) _ (parts .1) in
     kept-bits 8 (row .writable) (row .clears) bits old byte (ltb-true bits (2 ^ 8) (parts .0))
     (eqb-true (bitAnd (row .writable) bits) 0 (masks .0)) (eqb-true (bitAnd (row .clears) bits) 0 (masks .1))
 
@@ -108,22 +118,27 @@ seen row position byte image address bits t = by-place (eqb address position) re
     by-place false e =
         ap (λ (y : ℕ). bitAnd y bits) (storedAt-other row position byte image address (eqb-false address position e))
 
--- the test over a chip's identity, carried to every write
-kept : (chip : Chip) (address byte : ℕ) (image : List ℕ) (rs : List Required) → So (allFixed chip rs)
-    → allHold (written chip address byte image) rs ≡ allHold image rs
-kept chip address byte image [] t = refl
-kept chip address byte image (r ∷ rs) t =
-    let parts = and-eq-true-iff (fixed (rowOf chip (r .0)) (r .1)) (allFixed chip rs) .0 t in
+-- the test over a page's identity, carried to every write
+kept : (sheet : Sheet) (position byte : ℕ) (image : List ℕ) (rs : List Required) → So (every (lasting sheet) rs)
+    → allHold (storedAt (rowIn (sheet .card) position) position byte image) rs ≡ allHold image rs
+kept sheet position byte image [] t = refl
+kept sheet position byte image (r ∷ rs) t =
+    let parts = both (lasting sheet r) _ t in
+    let unchanging = both (ltb (r .position) (sheet .size)) _ (parts .0) .1 in
     ap₂ _&&_
-    (ap (λ (y : ℕ). eqb y (r .2))
-    (seen (rowOf chip address) address byte image (r .0) (r .1)
-    (λ e. subst (λ (a : ℕ). So (fixed (rowOf chip a) (r .1))) e (parts .0))))
-    (kept chip address byte image rs (parts .1))
+    (ap (λ (y : ℕ). eqb y (r .value))
+    (seen (rowIn (sheet .card) position) position byte image (r .position) (r .bits)
+    (λ e. subst (λ (a : ℕ). So (fixed (rowIn (sheet .card) a) (r .bits))) e unchanging)))
+    (kept sheet position byte image rs (parts .1))
+
+agrees-kept : (sheet : Sheet) (position byte : ℕ) (image : List ℕ) (rs : List Required) → So (every (lasting sheet) rs)
+    → agrees (storedAt (rowIn (sheet .card) position) position byte image) rs ≡ agrees image rs
+agrees-kept sheet position byte image [] t = refl
+agrees-kept sheet position byte image (r ∷ rs) t = kept sheet position byte image (r ∷ rs) t
 
 -- no write changes what identity sees
 pub write-keeps-identity : (chip : Chip) (address byte : ℕ) (image : List ℕ)
     → confirmed chip (written chip address byte image) ≡ confirmed chip image
-unfolding confirmed
-write-keeps-identity Nct7802y address byte image = kept Nct7802y address byte image nct7802y.identity nct7802y-fixed
-write-keeps-identity F75373s address byte image = kept F75373s address byte image f75373s.identity f75373s-fixed
-write-keeps-identity Nct80 address byte image = refl
+unfolding confirmed rowOf
+write-keeps-identity chip address byte image =
+    agrees-kept (sheetOf chip) address byte image (sheetOf chip .identity) (sound-sheet chip .identity)

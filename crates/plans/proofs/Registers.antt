@@ -9,7 +9,7 @@ use mathlib.Core.List.{List, _∷_}
 use lib.ListN.{length, take, drop, length-drop}
 use lib.Seq.{take-all, getD-drop}
 use Rattle.cards.specs.Rows.{Table, from}
-use Rattle.cards.specs.Cards.{hasTable, tableOf, tableFrom, baseOf}
+use Rattle.cards.specs.Cards.{sheetOf, hasTable, tableOf, tableFrom, baseOf}
 use Rattle.cards.specs.declared.Chip.{Chip}
 use Rattle.cards.specs.declared.Chip.the-variants.{Nct7802y, F75373s, Nct80}
 use Rattle.cards.proofs.Tables.{table-at-base}
@@ -28,6 +28,7 @@ shifted l base k (suc n) =
 -- the body that begins at a base asks what the registers of the table there ask
 base-asks : (chip : Chip) (table base : ℕ) (image : List ℕ) (t : ℕ)
     → asks chip (planned chip (decoded chip table (drop base image))) t ≡ asks chip (held (tableFrom chip base) image) t
+unfolding sheetOf
 base-asks Nct7802y table base image t =
     ap (λ (curve : Curve). asks Nct7802y curve t)
     (λ i. record { settings = (shifted image base 0 5 ∙ ap (λ (first : ℕ). bytesAt image (from first 5)) (add-zero base)) i; speeds = shifted image base 5 4 i })

@@ -6,10 +6,11 @@ use mathlib.Core.List.{List}
 use Rattle.cards.specs.declared.Chip.{Chip}
 use Rattle.cards.specs.declared.Chip.the-variants.{Nct7802y, F75373s, Nct80}
 use Rattle.cards.specs.declared.Named.the-variants.{Known}
-use Rattle.cards.specs.Cards.{chipOf}
+use Rattle.cards.specs.Cards.{sheetOf, chipOf}
 use Rattle.plans.specs.Plans.{decoded}
 
 pub decoded-chip : (chip : Chip) (table : ℕ) (body : List ℕ) → chipOf (decoded chip table body .chip) ≡ Known chip
+unfolding sheetOf
 decoded-chip Nct7802y table body = refl
 decoded-chip F75373s table body = refl
 decoded-chip Nct80 table body = refl

@@ -12,7 +12,7 @@ use Rattle.cards.specs.declared.Chip.the-variants.{Nct7802y, F75373s, Nct80}
 use Rattle.cards.specs.declared.Named.{Named}
 use Rattle.cards.specs.declared.Named.the-variants.{Known, Unknown}
 use Rattle.cards.specs.Rows.{Table, from, positions}
-use Rattle.cards.specs.Cards.{chipOf, whenKnown, hasTable, tableOf, tableFrom, baseOf}
+use Rattle.cards.specs.Cards.{sheetOf, chipOf, whenKnown, hasTable, tableOf, tableFrom, baseOf}
 use Rattle.cards.proofs.Numbers.{chip-number}
 use Rattle.cards.proofs.Tables.{table-at-base}
 use Rattle.curves.specs.declared.Plan.{Plan}
@@ -25,6 +25,7 @@ use Rattle.records.specs.Records.{body, bodyLength, recordLength, record
 
 -- "9 bytes for chip 1, 14 for chip 2": as many as each of the chip's tables has registers
 at-base : (chip : Chip) (base : ℕ) → length (positions (tableFrom chip base)) ≡ bodyLength chip
+unfolding sheetOf
 at-base Nct7802y base = refl
 at-base F75373s base = refl
 at-base Nct80 base = refl
@@ -79,6 +80,7 @@ decoded-sized Nct80 table rest = record { temperatures = refl; duties = refl; bo
 -- a plan's body is decoded to the plan, with the other chip's values zero and whatever stands behind the body
 pub decode-encode : (chip : Chip) (plan : Plan) (rest : List ℕ) → Sized plan → chipOf (plan .chip) ≡ Known chip
     → decoded chip (plan .table) (body (planned chip plan) ++ rest) ≡ ownOf chip plan
+unfolding sheetOf
 decode-encode Nct7802y plan rest S e =
     let undone : List ℕ → List ℕ → Plan = λ ts ds. decoded Nct7802y (plan .table) (((ts ++ (plan .critical ∷ [])) ++ ds) ++ rest) in
     let of : ℕ → List ℕ → List ℕ → Plan = λ n ts ds. record { chip = n; table = plan .table; temperatures = ts; critical = plan .critical; duties = ds; bounds = zeros 4; counts = zeros 5 } in

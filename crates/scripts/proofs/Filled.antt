@@ -9,7 +9,7 @@ use lib.ListN.{length, length-append}
 use Rattle.cards.specs.declared.Chip.{Chip}
 use Rattle.cards.specs.declared.Chip.the-variants.{Nct7802y, F75373s, Nct80}
 use Rattle.cards.specs.Rows.{Table}
-use Rattle.cards.specs.Cards.{hasTable, tableOf}
+use Rattle.cards.specs.Cards.{sheetOf, hasTable, tableOf}
 use Rattle.cards.proofs.Tables.{table-number, table-at-base}
 use Rattle.curves.specs.declared.Plan.{Plan}
 use Rattle.curves.specs.Planned.{planned}
@@ -18,6 +18,7 @@ use Rattle.records.proofs.Encoding.{halves-length}
 
 pub settings-fill : (chip : Chip) (plan : Plan) → Sized plan → So (hasTable chip (plan .table))
     → length (tableOf chip (plan .table) .settings) ≡ length (planned chip plan .settings)
+unfolding sheetOf
 settings-fill Nct7802y plan long has =
     ap (λ (t : Table). length (t .settings)) (table-at-base Nct7802y (plan .table) has)
     ∙ sym (length-append (plan .temperatures) (plan .critical ∷ []) ∙ ap (λ (n : ℕ). n + 1) (long .temperatures))
@@ -27,6 +28,7 @@ settings-fill Nct80 plan long has = absurd (omega (arith, table-number Nct80 (pl
 
 pub speeds-fill : (chip : Chip) (plan : Plan) → Sized plan → So (hasTable chip (plan .table))
     → length (tableOf chip (plan .table) .speeds) ≡ length (planned chip plan .speeds)
+unfolding sheetOf
 speeds-fill Nct7802y plan long has =
     ap (λ (t : Table). length (t .speeds)) (table-at-base Nct7802y (plan .table) has) ∙ sym (long .duties)
 speeds-fill F75373s plan long has =

@@ -19,7 +19,7 @@ use Rattle.cards.specs.declared.Chip.the-variants.{Nct7802y, F75373s, Nct80}
 use Rattle.cards.specs.declared.Named.{Named}
 use Rattle.cards.specs.declared.Named.the-variants.{Known, Unknown}
 use Rattle.cards.specs.Rows.{Table}
-use Rattle.cards.specs.Cards.{chipOf, whenKnown, hasTable, tableFrom, baseOf}
+use Rattle.cards.specs.Cards.{sheetOf, chipOf, whenKnown, hasTable, tableFrom, baseOf}
 use Rattle.cards.proofs.Tables.{table-number, table-at-base}
 use Rattle.curves.specs.declared.Plan.{Plan}
 use Rattle.curves.specs.Planned.{Curve, planned}
@@ -87,7 +87,7 @@ module _ (full base s v number table : ℕ) (curve : Curve) (tail : List ℕ) (e
 -- a plan's script, whatever follows its record
 pub describes-plan : (chip : Chip) (plan : Plan) (tail : List ℕ) → Sized plan → So (hasTable chip (plan .table))
     → Describes (laidOut chip (baseOf chip (plan .table))) (recordOf chip plan ++ tail) (scriptOf chip plan)
-unfolding scriptOf
+unfolding sheetOf scriptOf
 describes-plan chip plan tail long has =
     subst (λ (t : Table). Describes (laidOut chip base) (recordOf chip plan ++ tail) (script (fullOf chip) t (planned chip plan)))
     (sym (table-at-base chip (plan .table) has)) (by-chip chip es ev)
@@ -110,6 +110,7 @@ describes-plan chip plan tail long has =
 
 -- no table reaches past the image
 base-within : (chip : Chip) (number : ℕ) → So (hasTable chip number) → baseOf chip number + 14 < 256
+unfolding sheetOf
 base-within Nct7802y zero t = absurd (false≢true t)
 base-within Nct7802y (suc zero) t = omega arith
 base-within Nct7802y (suc (suc zero)) t = omega arith

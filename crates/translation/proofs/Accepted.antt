@@ -14,7 +14,7 @@ use Rattle.cards.specs.declared.Chip.{Chip}
 use Rattle.cards.specs.declared.Chip.the-variants.{Nct7802y, F75373s, Nct80}
 use Rattle.cards.specs.declared.Named.{Named}
 use Rattle.cards.specs.declared.Named.the-variants.{Known, Unknown}
-use Rattle.cards.specs.Cards.{chipOf, hasTable}
+use Rattle.cards.specs.Cards.{sheetOf, chipOf, hasTable}
 use Rattle.cards.proofs.Tables.{table-number}
 use Rattle.curves.specs.declared.Plan.{Plan}
 use Rattle.plans.specs.Plans.{decoded, temperaturesOut, speedsOut, planChecks}
@@ -36,12 +36,14 @@ pub record Accepted (bytes : List ℕ) (used : ℕ) (plan : Plan) : Type 0 where
 
 judged : (chip : Chip) (table : ℕ) (body : List ℕ) → hasTable chip table ≡ true → temperaturesOut (decoded chip table body) ≡ false
     → speedsOut (decoded chip table body) ≡ false → first (planChecks (decoded chip table body)) ≡ 0
+unfolding sheetOf
 judged Nct7802y table body has t s = rw (has, t, s)
 judged F75373s table body has t s = rw (has, t, s)
 judged Nct80 table body has t s = rw has
 
 known : (chip : Chip) (bytes : List ℕ) (table : ℕ) → hasTable chip table ≡ true → bodyLength chip ≤ length (bodyIn bytes)
     → first (planChecks (decoded chip table (bodyIn bytes))) ≡ 0 → Accepted bytes (recordLength chip) (decoded chip table (bodyIn bytes))
+unfolding sheetOf
 known Nct7802y bytes table has h e =
     let plan = decoded Nct7802y table (bodyIn bytes) in
     let writes = script-of-plan Nct7802y plan (decoded-sized Nct7802y table (bodyIn bytes)) has in

@@ -1,7 +1,7 @@
 -- `cards::row_of` meets its contract: each arm answers by the module of its chip.
 -- Assumes nothing.
 use borrow.Author.Needs.{needs}
-use Rattle.cards.specs.Cards.{rowOf}
+use Rattle.cards.specs.Cards.{sheetOf, rowOf}
 use Rattle.cards.proofs.row_of.Statement.{statement}
 use Rattle.cards.proofs.row_of.Tie as tie
 
@@ -24,15 +24,15 @@ row-requires-3 : tie.Need-row-requires-3
 row-requires-3 c κs = search needs
 
 returns : tie.Need-returns
-unfolding rowOf
+unfolding sheetOf rowOf
 returns c = record { answer = cc }
 
 returns-2 : tie.Need-returns-2
-unfolding rowOf
+unfolding sheetOf rowOf
 returns-2 c = record { answer = cc }
 
 returns-3 : tie.Need-returns-3
-unfolding rowOf
+unfolding sheetOf rowOf
 returns-3 c = record { answer = cc }
 
 pub row-of-spec : {M : Type 1} → statement M

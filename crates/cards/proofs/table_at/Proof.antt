@@ -1,5 +1,6 @@
 -- `cards::table_at` meets its contract: each arm answers by the module of its chip.
 -- Assumes nothing.
+use Rattle.cards.specs.Cards.{sheetOf}
 use native.Mathlib.Omega.{arith}
 use Rattle.cards.proofs.Tables.{no-number}
 use borrow.Author.Needs.{needs}
@@ -22,12 +23,15 @@ enum-told-3 : tie.Need-enum-told-3
 enum-told-3 c = search needs
 
 returns : tie.Need-returns
+unfolding sheetOf
 returns c = record { answer = cc }
 
 returns-2 : tie.Need-returns-2
+unfolding sheetOf
 returns-2 c = record { answer = cc }
 
 returns-3 : tie.Need-returns-3
+unfolding sheetOf
 returns-3 c = record { answer = rw (c .enum-told3 .given .1, no-number (c .before .before .args .number) 0 (λ p q. omega arith)) }
 
 pub table-at-spec : {M : Type 1} → statement M

@@ -1,46 +1,96 @@
--- `identities::confirmed` meets its contract: each arm answers for its chip.
+-- `identities::confirmed` meets its contract: as far as the loop has come every register agrees.
 -- Assumes nothing.
-use Rattle.cards.specs.Identity.{confirmed}
+use Prim.Native.Nat.{ℕ, _≤_, _<_, _-_}
+use native.Mathlib.Omega.{arith}
+use native.Mathlib.Numerals.{add-one}
+use mathlib.Core.Path.{_≡_, sym, ap, _∙_}
+use mathlib.Core.Bool.{true}
+use borrow.Author.Tests.{not-true, not-false}
+use lib.Dec.{ltb}
+use lib.ListN.{length, take}
+use lib.Seq.{take-all}
+use Rattle.cards.specs.declared.Required.{Required}
+use Rattle.cards.specs.Cards.{sheetOf}
+use Rattle.cards.specs.Identity.{holds, allHold, confirmed}
+use Rattle.identities.proofs.Asked.{inside, none-asked, one-more, one-fails, all-asked}
 use borrow.Author.Needs.{needs}
 use Rattle.identities.proofs.confirmed.Statement.{statement}
 use Rattle.identities.proofs.confirmed.Tie as tie
 
-enum-told : tie.Need-enum-told
-enum-told c = search needs
+abbrev Inv-loop : tie.InvT-loop
+Inv-loop chip image count k₀ k = ((k ≤ count) × (count ≡ length (sheetOf chip .identity))) × (allHold image (take k (sheetOf chip .identity)) ≡ true)
 
-is-nct7802y-requires : tie.Need-is-nct7802y-requires
-is-nct7802y-requires c κs = search needs
+abbrev μ-loop : tie.MeasureT-loop
+μ-loop chip image count k₀ k = count - k
 
-enum-told-2 : tie.Need-enum-told-2
-enum-told-2 c = search needs
+required-count-requires : tie.Need-required-count-requires Inv-loop μ-loop
+required-count-requires c κs = search needs
 
-is-f75373s-requires : tie.Need-is-f75373s-requires
-is-f75373s-requires c κs = search needs
+loop-holds : tie.Need-loop-holds Inv-loop μ-loop
+loop-holds c =
+    let a = c .before .before .args in
+    ((omega arith, c .required-count .ensures .answer), none-asked (a .image .now) (sheetOf (a .chip) .identity))
 
-enum-told-3 : tie.Need-enum-told-3
-enum-told-3 c = search needs
+required-of-requires : tie.Need-required-of-requires Inv-loop μ-loop
+required-of-requires c κs = search needs
 
-returns : tie.Need-returns
+holds-requires : tie.Need-holds-requires Inv-loop μ-loop
+holds-requires c κs =
+    let l = c .before .before in
+    let a = l .before .before .before .args in
+    let there : l .loop .k < length (sheetOf (a .chip) .identity) = omega (arith, l .loop .inv .0 .1) in
+    let long : length (a .image .now) ≡ 256 = search needs in
+    omega (arith, ap (λ (r : Required). r .position) (c .required-of .ensures .answer), inside (a .chip) (l .loop .k) there, long)
+
+returns : tie.Need-returns Inv-loop μ-loop
 unfolding confirmed
-returns c = simp (c .is-nct7802y .ensures, c .before .enum-told .given .1)
+returns c =
+    let l = c .before .before .before .before in
+    let a = l .before .before .before .args in
+    let asked = ap (holds (a .image .now)) (c .before .before .required-of .ensures .answer) in
+    sym
+    (one-fails (a .image .now) (sheetOf (a .chip) .identity) (l .loop .k) (omega (arith, l .loop .inv .0 .1))
+    (sym asked ∙ sym (c .before .holds .ensures) ∙ not-true _ (c .if1 .taken)))
 
-returns-2 : tie.Need-returns-2
-unfolding confirmed
-returns-2 c = simp (c .is-f75373s .ensures, c .before .enum-told2 .given .1)
+add-k : tie.Need-add-k Inv-loop μ-loop
+add-k c = search needs
 
-returns-3 : tie.Need-returns-3
+loop-less : tie.Need-loop-less Inv-loop μ-loop
+loop-less c = search needs
+
+loop-again : tie.Need-loop-again Inv-loop μ-loop
+loop-again c =
+    let l = c .before .before .before .before in
+    let a = l .before .before .before .args in
+    let there : l .loop .k < length (sheetOf (a .chip) .identity) = omega (arith, l .loop .inv .0 .1) in
+    let asked = ap (holds (a .image .now)) (c .before .before .required-of .ensures .answer) in (
+      (omega arith, l .loop .inv .0 .1),
+      ap (λ (n : ℕ). allHold (a .image .now) (take n (sheetOf (a .chip) .identity))) (add-one (l .loop .k))
+          ∙ one-more (a .image .now) (sheetOf (a .chip) .identity) (l .loop .k) there (l .loop .inv .1) (sym asked ∙ sym (c .before .holds .ensures) ∙ not-false _ (c .if1 .left)),
+    )
+
+returns-2 : tie.Need-returns-2 Inv-loop μ-loop
 unfolding confirmed
-returns-3 c = simp (c .enum-told3 .given .1)
+returns-2 c =
+    let l = c .before in
+    let a = l .before .before .before .args in
+    let rs = sheetOf (a .chip) .identity in
+    let all : allHold (a .image .now) rs ≡ true =
+    sym (ap (allHold (a .image .now)) (take-all (l .loop .k) rs (omega (arith, l .loop .inv .0 .1)))) ∙ l .loop .inv .1 in
+    ap (ltb 0) (l .loop .inv .0 .1) ∙ all-asked (a .image .now) rs all
 
 pub confirmed-spec : {M : Type 1} → statement M
 confirmed-spec =
     tie.close
     (tie.spec
-    enum-told
-    is-nct7802y-requires
-    enum-told-2
-    is-f75373s-requires
-    enum-told-3
+    Inv-loop
+    μ-loop
+    required-count-requires
+    loop-holds
+    required-of-requires
+    holds-requires
     returns
-    returns-2
-    returns-3)
+    add-k
+    loop-less
+    loop-again
+    returns-2)

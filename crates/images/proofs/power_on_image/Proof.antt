@@ -1,11 +1,14 @@
 -- `images::power_on_image` meets its contract: the places passed hold the power-on values of their rows.
 -- Assumes nothing.
 use Rattle.cards.proofs.Columns.{column-length, column-at}
-use Rattle.cards.specs.Cards.{rowOf, powerOn}
+use Rattle.cards.proofs.Sound.{sound-sheet}
+use Rattle.cards.specs.Sheets.{powerOnIn}
+use Rattle.cards.specs.Cards.{sheetOf, rowOf, powerOn}
 use Rattle.cards.specs.declared.Row.{Row}
 use Rattle.images.proofs.Filling.{Filled, filled-none, filled-more, filled-all}
 use Prim.Native.Nat.{_-_}
-use mathlib.Core.Path.{refl, ap}
+use native.Mathlib.Omega.{arith}
+use mathlib.Core.Path.{_≡_, refl, ap, _∙_}
 use borrow.Author.Needs.{needs}
 use Rattle.images.proofs.power_on_image.Statement.{statement}
 use Rattle.images.proofs.power_on_image.Tie as tie
@@ -39,9 +42,12 @@ loop-again c =
     filled-more _ (c .before .before .loop .inv) (c .before .loop-test .taken) (ap (λ (r : Row). r .«power_on») (c .row-of .ensures .answer))
 
 returns : tie.Need-returns Inv-loop μ-loop
-unfolding powerOn
+unfolding rowOf powerOnIn
 returns c =
-    filled-all (c .before .loop .inv) (c .loop-test .left) (powerOn (c .before .before .args .chip)) (column-length _) (column-at _)
+    let chip = c .before .before .args .chip in
+    let full : sheetOf chip .size ≡ 256 = sound-sheet chip .size in
+    filled-all (c .before .loop .inv) (c .loop-test .left) (powerOn chip) (column-length (sheetOf chip .size) _ ∙ full)
+    (λ k h. column-at (sheetOf chip .size) _ k (omega (arith, full)))
 
 pub power-on-image-spec : {M : Type 1} → statement M
 power-on-image-spec =

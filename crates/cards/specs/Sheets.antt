@@ -1,0 +1,23 @@
+-- A chip as one page of facts: everything that sets it apart from the others.
+-- Assumes nothing.
+use Prim.Native.Nat.{ℕ}
+use mathlib.Core.List.{List}
+use Rattle.cards.specs.declared.Required.{Required}
+use Rattle.cards.specs.Rows.{Line, Table, Reading, rowIn, column}
+
+pub record Sheet : Type 0 where
+  -- "Chip 1 is the Nuvoton NCT7802Y (source document 000), chip 2 the Fintek F75373S (002), chip 3 the onsemi NCT80 (004)."
+  pub number : ℕ
+  -- how many bytes its image has
+  pub size : ℕ
+  pub card : List Line
+  -- every register that counts; where there is none, nothing is confirmed
+  pub identity : List Required
+  -- the fan tables, with the numbers from 1 on
+  pub tables : List Table
+  -- where its temperatures stand, as far as the rules paper says
+  pub temperatures : List Reading
+
+-- "Reset fills the image with the power-on column."
+unfoldable pub powerOnIn : Sheet → List ℕ
+powerOnIn sheet = column (sheet .size) (λ position. rowIn (sheet .card) position .«power_on»)
