@@ -8,8 +8,7 @@ use borrow.Author.Tests.{eqb-true}
 use lib.Dec.{eqb}
 use lib.Bits.{bitAnd}
 use Rattle.cards.specs.declared.Chip.{Chip}
-use Rattle.cards.specs.declared.Row.{Row}
-use Rattle.cards.specs.Rows.{Line, row, rowIn}
+use Rattle.cards.specs.Rows.{Line, Row, row, rowIn}
 use Rattle.cards.specs.Cards.{sheetOf, rowOf}
 use Rattle.cards.proofs.Every.{every, both}
 use Rattle.cards.proofs.Sound.{disjoint, sound-sheet}

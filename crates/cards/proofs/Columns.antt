@@ -1,12 +1,11 @@
--- A column has a number for each position, that of the position; and a row is what the card's three columns hold at its address.
+-- A column has a number for each position, that of the position; and a register's masks are what the card's columns hold at its address.
 -- Assumes nothing.
 use Prim.Native.Nat.{ℕ, zero, suc, _+_, _<_}
 use native.Mathlib.Nat.{add-zero, zero-add, add-suc, suc-add, le-of-suc-le-suc, not-suc-le-zero}
 use mathlib.Core.Path.{_≡_, refl, sym, ap, _∙_}
 use mathlib.Core.List.{List}
 use lib.ListN.{length, getD}
-use Rattle.cards.specs.declared.Row.{Row}
-use Rattle.cards.specs.Rows.{Line, row, rowIn, run, column}
+use Rattle.cards.specs.Rows.{Line, Row, row, masksIn, rowIn, run, column}
 
 pub run-length : (f : ℕ → ℕ) (first n : ℕ) → length (run f first n) ≡ n
 run-length f first zero = refl
@@ -26,14 +25,11 @@ pub column-at : (n : ℕ) (f : ℕ → ℕ) (position : ℕ) → position < n �
 unfolding column
 column-at n f position h = run-at f 0 n position h ∙ ap f (zero-add position)
 
--- one of the card's three columns
+-- a card's column of masks
 abbrev pub columnOf : (Row → ℕ) → List Line → List ℕ
 columnOf part lines = column 256 (λ address. part (rowIn lines address))
 
-pub row-of-columns : (lines : List Line) (address : ℕ) → address < 256
-    → row (getD (columnOf (λ r. r .writable) lines) address 0) (getD (columnOf (λ r. r .clears) lines) address 0)
-    (getD (columnOf (λ r. r .«power_on») lines) address 0)
-    ≡ rowIn lines address
-row-of-columns lines address h =
-    rw
-    (column-at 256 (λ a. rowIn lines a .writable) address h, column-at 256 (λ a. rowIn lines a .clears) address h, column-at 256 (λ a. rowIn lines a .«power_on») address h)
+pub masks-of-columns : (lines : List Line) (address : ℕ) → address < 256
+    → masksIn (row (getD (columnOf (λ r. r .writable) lines) address 0) (getD (columnOf (λ r. r .clears) lines) address 0) 0) ≡ masksIn (rowIn lines address)
+masks-of-columns lines address h =
+    rw (column-at 256 (λ a. rowIn lines a .writable) address h, column-at 256 (λ a. rowIn lines a .clears) address h)

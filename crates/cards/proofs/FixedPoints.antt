@@ -24,7 +24,7 @@ abbrev clears : Chip → ℕ → ℕ
 clears chip address = rowOf chip address .clears
 
 abbrev power : Chip → ℕ → ℕ
-power chip address = rowOf chip address .«power_on»
+power chip address = rowOf chip address .power
 
 -- "All fan table registers have mask FFh"
 abbrev masks : Chip → List ℕ → List Point

@@ -11,9 +11,8 @@ use lib.Dec.{eqb, leb, ltb}
 use lib.ListN.{length, getD}
 use Rattle.cards.specs.declared.Chip.{Chip}
 use Rattle.cards.specs.declared.Chip.the-variants.{Nct7802y, F75373s, Nct80}
-use Rattle.cards.specs.declared.Row.{Row}
 use Rattle.cards.specs.declared.Required.{Required}
-use Rattle.cards.specs.Rows.{Line, Table, positions, rowIn, column}
+use Rattle.cards.specs.Rows.{Line, Row, Table, positions, rowIn, column}
 use Rattle.cards.specs.Sheets.{Sheet, powerOnIn}
 use Rattle.cards.specs.Cards.{sheetOf}
 use Rattle.cards.specs.Identity.{allHold}

@@ -5,15 +5,18 @@ use mathlib.Core.Path.{_≡_, sym, _∙_}
 use Rattle.cards.specs.declared.Chip.{Chip}
 use Rattle.cards.specs.declared.Named.{Named}
 use Rattle.cards.specs.declared.Place.{Place}
-use Rattle.cards.specs.declared.Row.{Row}
+use Rattle.cards.specs.declared.Masks.{Masks}
 use Rattle.cards.specs.declared.Required.{Required}
-use Rattle.cards.specs.Cards.{Names, Finds, Lists, Requires, Places}
+use Rattle.cards.specs.Cards.{Names, Finds, PowersOn, Lists, Requires, Places}
 
 pub names-unique : {number : ℕ} {r s : Named} → Names number r → Names number s → r ≡ s
 names-unique p q = p .answer ∙ sym (q .answer)
 
-pub finds-unique : {chip : Chip} {address : ℕ} {r s : Row} → Finds chip address r → Finds chip address s → r ≡ s
+pub finds-unique : {chip : Chip} {address : ℕ} {r s : Masks} → Finds chip address r → Finds chip address s → r ≡ s
 finds-unique p q = p .answer ∙ sym (q .answer)
+
+pub powers-on-unique : {chip : Chip} {address r s : ℕ} → PowersOn chip address r → PowersOn chip address s → r ≡ s
+powers-on-unique p q = p .answer ∙ sym (q .answer)
 
 pub lists-unique : {chip : Chip} {r s : ℕ} → Lists chip r → Lists chip s → r ≡ s
 lists-unique p q = p .answer ∙ sym (q .answer)

@@ -10,11 +10,11 @@ use Rattle.cards.specs.declared.Chip.{Chip}
 use Rattle.cards.specs.declared.Chip.the-variants.{Nct7802y, F75373s, Nct80}
 use Rattle.cards.specs.declared.Named.{Named}
 use Rattle.cards.specs.declared.Named.the-variants.{Known, Unknown}
-use Rattle.cards.specs.declared.Row.{Row}
+use Rattle.cards.specs.declared.Masks.{Masks}
 use Rattle.cards.specs.declared.Required.{Required}
 use Rattle.cards.specs.declared.Place.{Place}
 use Rattle.cards.specs.declared.Place.the-variants.{At, Nowhere}
-use Rattle.cards.specs.Rows.{Line, Table, inARow, requiredIn, rowIn}
+use Rattle.cards.specs.Rows.{Line, Row, Table, inARow, masksIn, requiredIn, rowIn}
 use Rattle.cards.specs.Sheets.{Sheet, powerOnIn}
 use Rattle.cards.specs.Nct7802y as nct7802y
 use Rattle.cards.specs.F75373s as f75373s
@@ -98,9 +98,13 @@ notAnImage image = not (eqb (length image) 256)
 pub record Names (number : ℕ) (named : Named) : Type 0 where
   pub answer : named ≡ chipOf number
 
--- what `cards::row_of` promises
-pub record Finds (chip : Chip) (address : ℕ) (row : Row) : Type 0 where
-  pub answer : row ≡ rowOf chip address
+-- what `cards::masks_of` promises
+pub record Finds (chip : Chip) (address : ℕ) (masks : Masks) : Type 0 where
+  pub answer : masks ≡ masksIn (rowOf chip address)
+
+-- what `cards::power_on_of` promises
+pub record PowersOn (chip : Chip) (address byte : ℕ) : Type 0 where
+  pub answer : byte ≡ rowOf chip address .power
 
 -- what `cards::required_count` promises
 pub record Lists (chip : Chip) (count : ℕ) : Type 0 where

@@ -5,7 +5,7 @@ use mathlib.Core.Bool.{cond}
 use mathlib.Core.List.{List, [], _∷_, _++_}
 use lib.Dec.{eqb}
 use lib.ListN.{getD}
-use Rattle.cards.specs.declared.Row.{Row}
+use Rattle.cards.specs.declared.Masks.{Masks}
 use Rattle.cards.specs.declared.Required.{Required}
 
 -- a register of the sheet: its address, its writable bits, its bits that clear on one, its power-on value
@@ -28,8 +28,18 @@ pub record Reading : Type 0 where
   pub low : ℕ
   pub bits : ℕ
 
+-- what a card says of an address
+pub record Row : Type 0 where
+  pub writable : ℕ
+  pub clears : ℕ
+  pub power : ℕ
+
 abbrev pub row : ℕ → ℕ → ℕ → Row
-row writable clears power = record { writable = writable; clears = clears; «power_on» = power }
+row writable clears power = record { writable = writable; clears = clears; power = power }
+
+-- what a write goes by
+abbrev pub masksIn : Row → Masks
+masksIn r = record { writable = r .writable; clears = r .clears }
 
 -- a fan table: where its settings stand (temperatures, and critical where there is one), and where its speeds stand, in register order
 pub record Table : Type 0 where

@@ -20,4 +20,4 @@ pub record Sheet : Type 0 where
 
 -- "Reset fills the image with the power-on column."
 unfoldable pub powerOnIn : Sheet → List ℕ
-powerOnIn sheet = column (sheet .size) (λ position. rowIn (sheet .card) position .«power_on»)
+powerOnIn sheet = column (sheet .size) (λ position. rowIn (sheet .card) position .power)

@@ -3,7 +3,7 @@ mod f75373s;
 mod nct7802y;
 mod nct80;
 
-ghost use Rattle.cards.specs.Cards.{Names, Finds, Lists, Requires, Places};
+ghost use Rattle.cards.specs.Cards.{Names, Finds, PowersOn, Lists, Requires, Places};
 
 pub enum Chip {
     Nct7802y,
@@ -17,11 +17,10 @@ pub enum Named {
     Unknown,
 }
 
-// A register's row of the card.
-pub struct Row {
+// What a write does in a register: the bits that it replaces, and those that it clears where it has a 1.
+pub struct Masks {
     pub writable: u8,
     pub clears: u8,
-    pub power_on: u8,
 }
 
 // A register that identity looks at: the bits that count, and what these hold.
@@ -55,14 +54,25 @@ pub fn chip_of(number: u8) -> Named
     }
 }
 
-// The row of an address.
-pub fn row_of(chip: Chip, address: u8) -> Row
+// The masks of an address.
+pub fn masks_of(chip: Chip, address: u8) -> Masks
     ensures { λ r. ⌜ Finds chip address r ⌝ }
 {
     match chip {
-        Chip::Nct7802y => nct7802y::row(address),
-        Chip::F75373s => f75373s::row(address),
-        Chip::Nct80 => nct80::row(address),
+        Chip::Nct7802y => nct7802y::masks(address),
+        Chip::F75373s => f75373s::masks(address),
+        Chip::Nct80 => nct80::masks(address),
+    }
+}
+
+// What an address holds at power-on.
+pub fn power_on_of(chip: Chip, address: u8) -> u8
+    ensures { λ r. ⌜ PowersOn chip address r ⌝ }
+{
+    match chip {
+        Chip::Nct7802y => nct7802y::power(address),
+        Chip::F75373s => f75373s::power(address),
+        Chip::Nct80 => nct80::power(address),
     }
 }
 

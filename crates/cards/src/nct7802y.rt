@@ -3,10 +3,10 @@ mod clears;
 mod power_on;
 mod writable;
 
+use crate::Masks;
 use crate::NOTHING;
 use crate::Place;
 use crate::Required;
-use crate::Row;
 use clears::CLEARS;
 use power_on::POWER_ON;
 use writable::WRITABLE;
@@ -14,17 +14,23 @@ ghost use mathlib.Core.Path.{_≡_};
 ghost use Rattle.cards.specs.Cards.{Places};
 ghost use Rattle.cards.specs.declared.Chip.the-variants.{Nct7802y};
 ghost use Rattle.cards.specs.Nct7802y.{card, identity};
-ghost use Rattle.cards.specs.Rows.{requiredIn, rowIn};
+ghost use Rattle.cards.specs.Rows.{masksIn, requiredIn, rowIn};
 
-pub(crate) fn row(address: u8) -> Row
-    ensures { λ r. ⌜ r ≡ rowIn card address ⌝ }
+pub(crate) fn masks(address: u8) -> Masks
+    ensures { λ r. ⌜ r ≡ masksIn (rowIn card address) ⌝ }
 {
     let at = address as usize;
-    Row {
+    Masks {
         writable: WRITABLE[at],
         clears: CLEARS[at],
-        power_on: POWER_ON[at],
     }
+}
+
+pub(crate) fn power(address: u8) -> u8
+    ensures { λ r. ⌜ r ≡ rowIn card address .power ⌝ }
+{
+    let at = address as usize;
+    POWER_ON[at]
 }
 
 pub(crate) const REQUIRED: usize = 5;

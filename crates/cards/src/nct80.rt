@@ -3,21 +3,27 @@ mod clears;
 mod power_on;
 mod writable;
 
-use crate::Row;
+use crate::Masks;
 use clears::CLEARS;
 use power_on::POWER_ON;
 use writable::WRITABLE;
 ghost use mathlib.Core.Path.{_≡_};
 ghost use Rattle.cards.specs.Nct80.{card};
-ghost use Rattle.cards.specs.Rows.{rowIn};
+ghost use Rattle.cards.specs.Rows.{masksIn, rowIn};
 
-pub(crate) fn row(address: u8) -> Row
-    ensures { λ r. ⌜ r ≡ rowIn card address ⌝ }
+pub(crate) fn masks(address: u8) -> Masks
+    ensures { λ r. ⌜ r ≡ masksIn (rowIn card address) ⌝ }
 {
     let at = address as usize;
-    Row {
+    Masks {
         writable: WRITABLE[at],
         clears: CLEARS[at],
-        power_on: POWER_ON[at],
     }
+}
+
+pub(crate) fn power(address: u8) -> u8
+    ensures { λ r. ⌜ r ≡ rowIn card address .power ⌝ }
+{
+    let at = address as usize;
+    POWER_ON[at]
 }

@@ -15,7 +15,7 @@ use Rattle.cards.specs.declared.Chip.{Chip}
 use Rattle.cards.specs.declared.Named.{Named}
 use Rattle.cards.specs.declared.Named.the-variants.{Known}
 use Rattle.cards.specs.declared.Place.{Place}
-use Rattle.cards.specs.Rows.{requiredIn}
+use Rattle.cards.specs.Rows.{masksIn, requiredIn}
 use Rattle.cards.specs.Cards.{sheetOf, chipOf, unknown, hasTable, rowOf, baseOf, tellsNamed, tellsPlace, Names, Places}
 use Rattle.cards.proofs.Told.{names-told, places-told}
 use Rattle.cards.specs.Identity.{confirmed}
@@ -66,7 +66,8 @@ demand-1 =
     record {
       number = λ refusal. record { answer = numberOf refusal; kept = record { answer = refl } };
       chip-of = named-answered;
-      row-of = λ chip address. record { answer = rowOf chip address; kept = record { answer = refl } };
+      masks-of = λ chip address. record { answer = masksIn (rowOf chip address); kept = record { answer = refl } };
+      power-on-of = λ chip address. record { answer = rowOf chip address .power; kept = record { answer = refl } };
       required-count = λ chip. record { answer = length (sheetOf chip .identity); kept = record { answer = refl } };
       required-of = λ chip k. record { answer = requiredIn (sheetOf chip .identity) k; kept = record { answer = refl } };
       table-at = placed-answered;

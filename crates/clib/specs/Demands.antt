@@ -17,9 +17,8 @@ use Rattle.refusal.specs.Checks.{Check, first}
 use Rattle.cards.specs.declared.Chip.{Chip}
 use Rattle.cards.specs.declared.Named.{Named}
 use Rattle.cards.specs.declared.Named.the-variants.{Known}
-use Rattle.cards.specs.declared.Row.{Row}
 use Rattle.cards.specs.declared.Place.{Place}
-use Rattle.cards.specs.Cards.{chipOf, unknown, hasTable, tellsNamed, tellsPlace, Names, Finds, Lists, Requires, Places}
+use Rattle.cards.specs.Cards.{chipOf, unknown, hasTable, tellsNamed, tellsPlace, Names, Finds, PowersOn, Lists, Requires, Places}
 use Rattle.cards.specs.Identity.{confirmed}
 use Rattle.images.specs.declared.ByteRead.{ByteRead}
 use Rattle.images.specs.Images as images
@@ -78,7 +77,8 @@ unpacked r = (r % 256, r / 256)
 pub record Demand1 : Type 0 where
   pub number : (refusal : Refusal) → Given (λ n. Numbers refusal n)
   pub chip-of : (number : ℕ) (r : Named) → Names number r → Answered ((unknown number, 3) ∷ []) 0 (tellsNamed r)
-  pub row-of : (chip : Chip) (address : ℕ) → Given (λ row. Finds chip address row)
+  pub masks-of : (chip : Chip) (address : ℕ) → Given (λ masks. Finds chip address masks)
+  pub power-on-of : (chip : Chip) (address : ℕ) → Given (λ byte. PowersOn chip address byte)
   pub required-count : (chip : Chip) → Given (λ count. Lists chip count)
   pub required-of : (chip : Chip) (k : ℕ) → Given (λ required. Requires chip k required)
   pub table-at : (chip : Chip) (number : ℕ) (r : Place) → Places chip number r → Answered ((not (hasTable chip number), 4) ∷ []) 0 (tellsPlace r)

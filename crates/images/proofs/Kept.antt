@@ -14,9 +14,8 @@ use lib.ListN.{length, getD, set}
 use lib.Seq.{getD-set-same, set-out}
 use Rattle.cards.specs.declared.Chip.{Chip}
 use Rattle.cards.specs.declared.Chip.the-variants.{Nct7802y, F75373s}
-use Rattle.cards.specs.declared.Row.{Row}
 use Rattle.cards.specs.declared.Required.{Required}
-use Rattle.cards.specs.Rows.{rowIn}
+use Rattle.cards.specs.Rows.{Row, rowIn}
 use Rattle.cards.specs.Sheets.{Sheet}
 use Rattle.cards.specs.Cards.{sheetOf, rowOf, powerOn}
 use Rattle.cards.specs.Identity.{allHold, agrees, confirmed}

@@ -14,7 +14,7 @@ use Rattle.refusal.specs.declared.Outcome.{Outcome}
 use Rattle.refusal.specs.Answers.{tells}
 use Rattle.cards.specs.declared.Chip.{Chip}
 use Rattle.cards.specs.declared.Named.the-variants.{Known}
-use Rattle.cards.specs.declared.Row.{Row}
+use Rattle.cards.specs.Rows.{Row}
 use Rattle.cards.specs.Cards.{chipOf, rowOf}
 use Rattle.images.specs.Bytes.{storedBits, stored, storedAt}
 use Rattle.images.specs.Images.{Writes}

@@ -6,7 +6,7 @@ use mathlib.Core.List.{List}
 use lib.Dec.{eqb}
 use lib.ListN.{getD, set}
 use Rattle.cards.specs.declared.Chip.{Chip}
-use Rattle.cards.specs.declared.Row.{Row}
+use Rattle.cards.specs.Rows.{Row}
 use Rattle.cards.specs.Cards.{rowOf}
 
 -- "A byte write to an address replaces the writable bits, clears those clear bits where a 1 is written, and keeps the others."

@@ -25,10 +25,10 @@ pub fn write(chip: u8, image: &mut [u8], address: u8, byte: u8) -> Outcome
             if image.len() != 256 {
                 return Outcome::Refused(Refusal::NotAnImage);
             }
-            let row = cards::row_of(known, address);
+            let masks = cards::masks_of(known, address);
             let at = address as usize;
             let old = image[at];
-            image[at] = bytes::stored(row, old, byte);
+            image[at] = bytes::stored(masks, old, byte);
             Outcome::Accepted
         }
     }
@@ -56,8 +56,7 @@ fn power_on_image(chip: Chip) -> [u8; 256]
 {
     let mut working = [0u8; 256];
     for address in 0..256 {
-        let row = cards::row_of(chip, address as u8);
-        working[address] = row.power_on;
+        working[address] = cards::power_on_of(chip, address as u8);
     }
     working
 }

@@ -4,17 +4,16 @@ use Rattle.cards.proofs.Columns.{column-length, column-at}
 use Rattle.cards.proofs.Sound.{sound-sheet}
 use Rattle.cards.specs.Sheets.{powerOnIn}
 use Rattle.cards.specs.Cards.{sheetOf, rowOf, powerOn}
-use Rattle.cards.specs.declared.Row.{Row}
 use Rattle.images.proofs.Filling.{Filled, filled-none, filled-more, filled-all}
 use Prim.Native.Nat.{_-_}
 use native.Mathlib.Omega.{arith}
-use mathlib.Core.Path.{_≡_, refl, ap, _∙_}
+use mathlib.Core.Path.{_≡_, refl, _∙_}
 use borrow.Author.Needs.{needs}
 use Rattle.images.proofs.power_on_image.Statement.{statement}
 use Rattle.images.proofs.power_on_image.Tie as tie
 
 abbrev Inv-loop : tie.InvT-loop
-Inv-loop chip working₀ address₀ working address = Filled (λ k. rowOf chip k .«power_on») 256 working address
+Inv-loop chip working₀ address₀ working address = Filled (λ k. rowOf chip k .power) 256 working address
 
 abbrev μ-loop : tie.MeasureT-loop
 μ-loop chip working₀ address₀ working address = 256 - address
@@ -22,11 +21,11 @@ abbrev μ-loop : tie.MeasureT-loop
 loop-holds : tie.Need-loop-holds Inv-loop μ-loop
 loop-holds c = filled-none _ _ _ refl
 
-cast-row-of : tie.Need-cast-row-of Inv-loop μ-loop
-cast-row-of c = search needs
+cast-power-on-of : tie.Need-cast-power-on-of Inv-loop μ-loop
+cast-power-on-of c = search needs
 
-row-of-requires : tie.Need-row-of-requires Inv-loop μ-loop
-row-of-requires c κs = search needs
+power-on-of-requires : tie.Need-power-on-of-requires Inv-loop μ-loop
+power-on-of-requires c κs = search needs
 
 array-write-working : tie.Need-array-write-working Inv-loop μ-loop
 array-write-working c = search needs
@@ -39,7 +38,7 @@ loop-less c = search needs
 
 loop-again : tie.Need-loop-again Inv-loop μ-loop
 loop-again c =
-    filled-more _ (c .before .before .loop .inv) (c .before .loop-test .taken) (ap (λ (r : Row). r .«power_on») (c .row-of .ensures .answer))
+    filled-more _ (c .before .before .loop .inv) (c .before .loop-test .taken) (c .power-on-of .ensures .answer)
 
 returns : tie.Need-returns Inv-loop μ-loop
 unfolding rowOf powerOnIn
@@ -56,8 +55,8 @@ power-on-image-spec =
     Inv-loop
     μ-loop
     loop-holds
-    cast-row-of
-    row-of-requires
+    cast-power-on-of
+    power-on-of-requires
     array-write-working
     add-address
     loop-less

@@ -1,6 +1,6 @@
 -- `images::write` meets its contract: each answer knows which chip the number names and how long the image is.
 -- Assumes nothing.
-use Rattle.images.specs.Bytes.{storedAt}
+use Rattle.images.specs.Bytes.{stored, storedAt}
 use mathlib.Core.Path.{sym, _∙_}
 use borrow.Author.Tests.{eq-eqb, ne-eqb}
 use borrow.Author.Needs.{needs}
@@ -22,8 +22,8 @@ returns c =
     let short = ne-eqb _ _ (c .if1 .taken) in
     record { answer = simp (e, short); bytes = simp (e, short) }
 
-row-of-requires : tie.Need-row-of-requires
-row-of-requires c κs = search needs
+masks-of-requires : tie.Need-masks-of-requires
+masks-of-requires c κs = search needs
 
 slice-read-old : tie.Need-slice-read-old
 slice-read-old c = search needs
@@ -43,11 +43,11 @@ same-length : tie.Need-same-length
 same-length c = search needs
 
 returns-3 : tie.Need-returns-3
-unfolding storedAt
+unfolding stored storedAt
 returns-3 c =
     let e = sym (c .before .before .before .before .before .before .before .chip-of .ensures .answer) ∙ c .before .before .before .before .before .known .given .1 in
     let long = eq-eqb _ _ (c .before .before .before .if1 .left) in
-    record { answer = simp (e, long); bytes = simp (e, long, c .stored .ensures, c .before .before .row-of .ensures .answer) }
+    record { answer = simp (e, long); bytes = simp (e, long, c .stored .ensures, c .before .before .masks-of .ensures .answer) }
 
 pub write-spec : {M : Type 1} → statement M
 write-spec =
@@ -57,7 +57,7 @@ write-spec =
     enum-told
     enum-known-known
     returns
-    row-of-requires
+    masks-of-requires
     slice-read-old
     stored-requires
     slice-write-image
