@@ -9,9 +9,10 @@ use lib.Dec.{eqb}
 use lib.Bits.{bitAnd}
 use Rattle.cards.specs.declared.Chip.{Chip}
 use Rattle.cards.specs.Rows.{Line, Row, row, rowIn}
+use Rattle.cards.specs.Sheets.{Sheet}
 use Rattle.cards.specs.Cards.{sheetOf, rowOf}
 use Rattle.cards.proofs.Every.{every, both}
-use Rattle.cards.proofs.Sound.{disjoint, sound-sheet}
+use Rattle.cards.proofs.Sound.{disjoint, Sound, sound-sheet}
 
 abbrev Apart : Row → Type 0
 Apart r = bitAnd (r .writable) (r .clears) ≡ 0
@@ -28,6 +29,9 @@ carried (l ∷ ls) t address =
     (eqb-true (bitAnd (l .1) (l .2)) 0 (parts .0))
     (carried ls (parts .1) address)
 
+sheet-apart : (sheet : Sheet) → Sound sheet → (address : ℕ) → Apart (rowIn (sheet .card) address)
+sheet-apart sheet S address = carried (sheet .card) (S .masks) address
+
 pub masks-apart : (chip : Chip) (address : ℕ) → bitAnd (rowOf chip address .writable) (rowOf chip address .clears) ≡ 0
 unfolding rowOf
-masks-apart chip address = carried (sheetOf chip .card) (sound-sheet chip .masks) address
+masks-apart chip address = sheet-apart (sheetOf chip) (sound-sheet chip) address

@@ -12,9 +12,10 @@ use lib.Dec.{leb, ltb}
 use lib.ListN.{length, getD}
 use Rattle.cards.specs.declared.Chip.{Chip}
 use Rattle.cards.specs.Rows.{Line, row, rowIn}
+use Rattle.cards.specs.Sheets.{Sheet}
 use Rattle.cards.specs.Cards.{sheetOf, cardOf, rowOf}
 use Rattle.cards.proofs.Every.{both}
-use Rattle.cards.proofs.Sound.{rising, sound-sheet}
+use Rattle.cards.proofs.Sound.{rising, Sound, sound-sheet}
 
 -- the line at a place of the card
 abbrev pub lineAt : List Line → ℕ → Line
@@ -52,13 +53,19 @@ counted size least (l ∷ ls) t (suc k) h =
     rw (ne-eqb (l .0) (lineAt ls k .0) (λ e. omega (arith, e, later .0)))
     (counted size (suc (l .0)) ls (r .rest) k (le-of-suc-le-suc h))
 
+module _ (sheet : Sheet) (S : Sound sheet) (k : ℕ) (there : k < length (sheet .card)) where
+  sheet-inside : lineAt (sheet .card) k .0 < sheet .size
+  sheet-inside = between (sheet .size) 0x00 (sheet .card) (S .lines) k there .1
+
+  sheet-counts : rowIn (sheet .card) (lineAt (sheet .card) k .0) ≡ row (lineAt (sheet .card) k .1) (lineAt (sheet .card) k .2) (lineAt (sheet .card) k .3)
+  sheet-counts = counted (sheet .size) 0x00 (sheet .card) (S .lines) k there
+
 module _ (chip : Chip) (k : ℕ) (there : k < length (cardOf chip)) where
   -- a card's line is one of "the 256 addresses"
   pub line-inside : lineAt (cardOf chip) k .0 < 256
-  line-inside =
-      omega (arith, between (sheetOf chip .size) 0x00 (cardOf chip) (sound-sheet chip .lines) k there .1, sound-sheet chip .size)
+  line-inside = omega (arith, sheet-inside (sheetOf chip) (sound-sheet chip) k there, sound-sheet chip .size)
 
   -- and what it says is the row of its address
   pub line-counts : rowOf chip (lineAt (cardOf chip) k .0) ≡ row (lineAt (cardOf chip) k .1) (lineAt (cardOf chip) k .2) (lineAt (cardOf chip) k .3)
   unfolding rowOf
-  line-counts = counted (sheetOf chip .size) 0x00 (cardOf chip) (sound-sheet chip .lines) k there
+  line-counts = sheet-counts (sheetOf chip) (sound-sheet chip) k there

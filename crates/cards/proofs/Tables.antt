@@ -12,15 +12,16 @@ use Rattle.cards.specs.declared.Chip.{Chip}
 use Rattle.cards.specs.declared.Place.{Place}
 use Rattle.cards.specs.declared.Place.the-variants.{At, Nowhere}
 use Rattle.cards.specs.Rows.{Table, positions, rowIn, from, inARow}
-use Rattle.cards.specs.Cards.{sheetOf, cardOf, rowOf, tablesOf, hasTable, tableOf, tableFrom, baseOf, Places}
+use Rattle.cards.specs.Sheets.{Sheet, hasTableIn, tableIn}
+use Rattle.cards.specs.Cards.{sheetOf, rowOf, tablesOf, hasTable, tableOf, tableFrom, baseOf, Places}
 use Rattle.cards.proofs.Every.{every, both, of-every, distinct, apart}
-use Rattle.cards.proofs.Sound.{free, separate, consecutive, alike, firstOf, sound-sheet}
+use Rattle.cards.proofs.Sound.{free, separate, consecutive, alike, Sound, sound-sheet}
 
--- a chip's tables have the numbers from 1 on
-pub table-number : (chip : Chip) (number : ℕ) → So (hasTable chip number) → (1 ≤ number) × (number ≤ length (tablesOf chip))
-table-number chip number t =
-    let parts = both (leb 1 number) (leb number (length (tablesOf chip))) t in
-    (leb-true 1 number (parts .0), leb-true number (length (tablesOf chip)) (parts .1))
+-- tables have the numbers from 1 on
+numbered : (tables : List Table) (number : ℕ) → So (hasTableIn tables number) → (1 ≤ number) × (number ≤ length tables)
+numbered tables number t =
+    let parts = both (leb 1 number) (leb number (length tables)) t in
+    (leb-true 1 number (parts .0), leb-true number (length tables) (parts .1))
 
 neither : (a b : Bool) → (a ≡ true → b ≡ true → ⊥) → (a && b) ≡ false
 neither true true h = absurd (h refl refl)
@@ -31,37 +32,6 @@ neither false b h = refl
 pub no-number : (number count : ℕ) → (1 ≤ number → number ≤ count → ⊥) → (leb 1 number && leb number count) ≡ false
 no-number number count h =
     neither (leb 1 number) (leb number count) (λ p q. h (leb-true 1 number p) (leb-true number count q))
-
-module _ (chip : Chip) (number : ℕ) (has : So (hasTable chip number)) where
-  there : number - 1 < length (tablesOf chip)
-  there = let numbered = table-number chip number has in omega (arith, numbered .0, numbered .1)
-
-  tested-table : So (every (free (sheetOf chip)) (positions (tableOf chip number))) × So (distinct (positions (tableOf chip number)))
-  tested-table =
-      both (every (free (sheetOf chip)) (positions (tableOf chip number))) _
-      (of-every (separate (sheetOf chip)) (tablesOf chip) _ (sound-sheet chip .tables) (number - 1) there)
-
-  module _ (k : ℕ) (h : k < length (positions (tableOf chip number))) where
-    abbrev position : ℕ
-    position = getD (positions (tableOf chip number)) k 0
-
-    tested-position : So (eqb (rowIn (cardOf chip) position .writable) 0xFF) × So (ltb position (sheetOf chip .size))
-    tested-position =
-        both (eqb (rowIn (cardOf chip) position .writable) 0xFF) _
-        (of-every (free (sheetOf chip)) (positions (tableOf chip number)) 0 (tested-table .0) k h)
-
-    -- "All fan table registers have mask FFh"
-    pub table-mask : rowOf chip (getD (positions (tableOf chip number)) k 0) .writable ≡ 0xFF
-    unfolding rowOf
-    table-mask = eqb-true (rowIn (cardOf chip) position .writable) 0xFF (tested-position .0)
-
-    pub table-within : getD (positions (tableOf chip number)) k 0 < 256
-    table-within = omega (arith, ltb-true position (sheetOf chip .size) (tested-position .1), sound-sheet chip .size)
-
-  -- no two registers of a table share a position
-  pub table-distinct : (j k : ℕ) → j < length (positions (tableOf chip number)) → k < length (positions (tableOf chip number))
-      → getD (positions (tableOf chip number)) j 0 ≡ getD (positions (tableOf chip number)) k 0 → j ≡ k
-  table-distinct j k h l e = apart (positions (tableOf chip number)) (tested-table .1) j k h l e
 
 -- consecutive numbers are a run
 in-a-row : (first : ℕ) (ps : List ℕ) → So (consecutive first ps) → ps ≡ from first (length ps)
@@ -83,11 +53,60 @@ stands other table t =
     (λ i. record { settings = in-a-row base (table .settings) (runs .0) i; speeds = in-a-row (base + length (table .settings)) (table .speeds) (runs .1) i })
     ∙ ap₂ (λ (s v : ℕ). inARow base s v) settings speeds
 
--- a chip's tables differ only in where they begin
-pub table-at-base : (chip : Chip) (number : ℕ) → So (hasTable chip number) → tableOf chip number ≡ tableFrom chip (baseOf chip number)
-table-at-base chip number has =
-    stands (firstOf (tablesOf chip)) (tableOf chip number)
-    (of-every (alike (firstOf (tablesOf chip))) (tablesOf chip) _ (sound-sheet chip .rows) (number - 1) (there chip number has))
+-- of any page that passes, and any table that it has
+module _ (sheet : Sheet) (S : Sound sheet) (number : ℕ) (has : So (hasTableIn (sheet .tables) number)) where
+  abbrev table : Table
+  table = tableIn (sheet .tables) number
+
+  there : number - 1 < length (sheet .tables)
+  there = let n = numbered (sheet .tables) number has in omega (arith, n .0, n .1)
+
+  tested-table : So (every (free sheet) (positions table)) × So (distinct (positions table))
+  tested-table =
+      both (every (free sheet) (positions table)) _ (of-every (separate sheet) (sheet .tables) _ (S .tables) (number - 1) there)
+
+  sheet-distinct : (j k : ℕ) → j < length (positions table) → k < length (positions table) → getD (positions table) j 0 ≡ getD (positions table) k 0 → j ≡ k
+  sheet-distinct = apart (positions table) (tested-table .1)
+
+  sheet-at-base : table ≡ inARow (getD (table .settings) 0 0) (length (tableIn (sheet .tables) 1 .settings)) (length (tableIn (sheet .tables) 1 .speeds))
+  sheet-at-base =
+      stands (tableIn (sheet .tables) 1) table
+      (of-every (alike (tableIn (sheet .tables) 1)) (sheet .tables) _ (S .rows) (number - 1) there)
+
+  module _ (k : ℕ) (h : k < length (positions table)) where
+    abbrev position : ℕ
+    position = getD (positions table) k 0
+
+    tested-position : So (eqb (rowIn (sheet .card) position .writable) 0xFF) × So (ltb position (sheet .size))
+    tested-position =
+        both (eqb (rowIn (sheet .card) position .writable) 0xFF) _ (of-every (free sheet) (positions table) 0 (tested-table .0) k h)
+
+    sheet-mask : rowIn (sheet .card) position .writable ≡ 0xFF
+    sheet-mask = eqb-true (rowIn (sheet .card) position .writable) 0xFF (tested-position .0)
+
+    sheet-within : position < sheet .size
+    sheet-within = ltb-true position (sheet .size) (tested-position .1)
+
+module _ (chip : Chip) (number : ℕ) (has : So (hasTable chip number)) where
+  pub table-number : (1 ≤ number) × (number ≤ length (tablesOf chip))
+  table-number = numbered (tablesOf chip) number has
+
+  -- "All fan table registers have mask FFh"
+  pub table-mask : (k : ℕ) → k < length (positions (tableOf chip number)) → rowOf chip (getD (positions (tableOf chip number)) k 0) .writable ≡ 0xFF
+  unfolding rowOf
+  table-mask k h = sheet-mask (sheetOf chip) (sound-sheet chip) number has k h
+
+  pub table-within : (k : ℕ) → k < length (positions (tableOf chip number)) → getD (positions (tableOf chip number)) k 0 < 256
+  table-within k h = omega (arith, sheet-within (sheetOf chip) (sound-sheet chip) number has k h, sound-sheet chip .size)
+
+  -- no two registers of a table share a position
+  pub table-distinct : (j k : ℕ) → j < length (positions (tableOf chip number)) → k < length (positions (tableOf chip number))
+      → getD (positions (tableOf chip number)) j 0 ≡ getD (positions (tableOf chip number)) k 0 → j ≡ k
+  table-distinct = sheet-distinct (sheetOf chip) (sound-sheet chip) number has
+
+  -- a chip's tables differ only in where they begin
+  pub table-at-base : tableOf chip number ≡ tableFrom chip (baseOf chip number)
+  table-at-base = sheet-at-base (sheetOf chip) (sound-sheet chip) number has
 
 -- what a place tells of the table
 at-place : (has : Bool) (n base : ℕ) → cond has (At n) Nowhere ≡ At base → (has ≡ true) × (base ≡ n)

@@ -1,10 +1,10 @@
 -- "The three parts and who decides": the chips, their numbers and their cards; and the contracts of `cards`.
 -- Assumes nothing.
-use Prim.Native.Nat.{ℕ, _-_}
-use mathlib.Core.Bool.{Bool, true, false, cond, not, _&&_}
+use Prim.Native.Nat.{ℕ}
+use mathlib.Core.Bool.{Bool, true, false, cond, not}
 use mathlib.Core.Path.{_≡_}
 use mathlib.Core.List.{List, [], _∷_}
-use lib.Dec.{eqb, leb}
+use lib.Dec.{eqb}
 use lib.ListN.{length, getD}
 use Rattle.cards.specs.declared.Chip.{Chip}
 use Rattle.cards.specs.declared.Chip.the-variants.{Nct7802y, F75373s, Nct80}
@@ -15,7 +15,7 @@ use Rattle.cards.specs.declared.Required.{Required}
 use Rattle.cards.specs.declared.Place.{Place}
 use Rattle.cards.specs.declared.Place.the-variants.{At, Nowhere}
 use Rattle.cards.specs.Rows.{Line, Row, Table, inARow, masksIn, requiredIn, rowIn}
-use Rattle.cards.specs.Sheets.{Sheet, powerOnIn}
+use Rattle.cards.specs.Sheets.{Sheet, powerOnIn, hasTableIn, tableIn}
 use Rattle.cards.specs.Nct7802y as nct7802y
 use Rattle.cards.specs.F75373s as f75373s
 use Rattle.cards.specs.Nct80 as nct80
@@ -68,10 +68,10 @@ abbrev pub tablesOf : Chip → List Table
 tablesOf chip = sheetOf chip .tables
 
 abbrev pub hasTable : Chip → ℕ → Bool
-hasTable chip number = leb 1 number && leb number (length (tablesOf chip))
+hasTable chip number = hasTableIn (tablesOf chip) number
 
 abbrev pub tableOf : Chip → ℕ → Table
-tableOf chip number = getD (tablesOf chip) (number - 1) (record { settings = []; speeds = [] })
+tableOf chip number = tableIn (tablesOf chip) number
 
 -- the table of a chip that begins at a base: a chip's tables are as long as its first, and each stands in a row
 abbrev pub tableFrom : Chip → ℕ → Table

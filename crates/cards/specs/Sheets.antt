@@ -1,7 +1,10 @@
--- A chip as one page of facts: everything that sets it apart from the others.
+-- A chip as one page of facts, everything that sets it apart from the others; and what is read off a page.
 -- Assumes nothing.
-use Prim.Native.Nat.{ℕ}
-use mathlib.Core.List.{List}
+use Prim.Native.Nat.{ℕ, _-_}
+use mathlib.Core.Bool.{Bool, _&&_}
+use mathlib.Core.List.{List, []}
+use lib.Dec.{leb}
+use lib.ListN.{length, getD}
 use Rattle.cards.specs.declared.Required.{Required}
 use Rattle.cards.specs.Rows.{Line, Table, Reading, rowIn, column}
 
@@ -21,3 +24,10 @@ pub record Sheet : Type 0 where
 -- "Reset fills the image with the power-on column."
 unfoldable pub powerOnIn : Sheet → List ℕ
 powerOnIn sheet = column (sheet .size) (λ position. rowIn (sheet .card) position .power)
+
+-- whether there is a table of that number, and which it is
+abbrev pub hasTableIn : List Table → ℕ → Bool
+hasTableIn tables number = leb 1 number && leb number (length tables)
+
+abbrev pub tableIn : List Table → ℕ → Table
+tableIn tables number = getD tables (number - 1) (record { settings = []; speeds = [] })

@@ -36,6 +36,7 @@ pub enum Place {
     Nowhere,
 }
 
+// No bit of any register.
 const NOTHING: Required = Required {
     position: 0,
     bits: 0x00,
