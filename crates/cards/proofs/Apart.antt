@@ -7,7 +7,7 @@ use mathlib.Core.List.{List, [], _∷_}
 use borrow.Author.Tests.{eqb-true}
 use lib.Dec.{eqb}
 use lib.Bits.{bitAnd}
-use Rattle.cards.specs.declared.Chip.{Chip}
+use Rattle.cards.specs.declared.types.Chip.{Chip}
 use Rattle.cards.specs.Rows.{Line, Row, row, rowIn}
 use Rattle.cards.specs.Sheets.{Sheet}
 use Rattle.cards.specs.Cards.{sheetOf, rowOf}

@@ -5,8 +5,8 @@ use mathlib.Core.Path.{refl}
 use mathlib.Core.Bool.{Bool, So, true, _&&_}
 use mathlib.Core.List.{List, [], _∷_, _++_}
 use lib.Dec.{eqb}
-use Rattle.cards.specs.declared.Chip.{Chip}
-use Rattle.cards.specs.declared.Chip.the-variants.{Nct7802y, F75373s, Nct80}
+use Rattle.cards.specs.declared.types.Chip.{Chip}
+use Rattle.cards.specs.declared.types.Chip.the-variants.{Nct7802y, F75373s, Nct80}
 use Rattle.cards.specs.Rows.{Table}
 use Rattle.cards.specs.Cards.{sheetOf, rowOf, tablesOf}
 use Rattle.cards.specs.Nct7802y as nct7802y

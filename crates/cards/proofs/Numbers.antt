@@ -7,9 +7,9 @@ use mathlib.Core.Bool.{Bool, true, false, cond, true≢false}
 use mathlib.Core.List.{List, [], _∷_}
 use borrow.Author.Tests.{eqb-true}
 use lib.Dec.{eqb}
-use Rattle.cards.specs.declared.Chip.{Chip}
-use Rattle.cards.specs.declared.Named.{Named}
-use Rattle.cards.specs.declared.Named.the-variants.{Known, Unknown}
+use Rattle.cards.specs.declared.types.Chip.{Chip}
+use Rattle.cards.specs.declared.types.Named.{Named}
+use Rattle.cards.specs.declared.types.Named.the-variants.{Known, Unknown}
 use Rattle.cards.specs.Cards.{chips, chipAmong, chipOf, chipNumber, whenKnown, unknown}
 
 among : (cs : List Chip) (number : ℕ) (chip : Chip) → chipAmong cs number ≡ Known chip → number ≡ chipNumber chip

@@ -5,8 +5,8 @@ use mathlib.Core.Path.{refl}
 use mathlib.Core.Bool.{So}
 use mathlib.Core.List.{List, [], _∷_}
 use lib.ListN.{length, getD}
-use Rattle.cards.specs.declared.Chip.{Chip}
-use Rattle.cards.specs.declared.Chip.the-variants.{Nct7802y, F75373s, Nct80}
+use Rattle.cards.specs.declared.types.Chip.{Chip}
+use Rattle.cards.specs.declared.types.Chip.the-variants.{Nct7802y, F75373s, Nct80}
 use Rattle.cards.specs.Rows.{Reading, positions}
 use Rattle.cards.specs.Cards.{sheetOf, tablesOf, tableOf}
 use Rattle.cards.proofs.FixedPoints.{Point, agree}

@@ -9,9 +9,9 @@ use borrow.Author.Tests.{eqb-true}
 use lib.Bits.{bitAnd}
 use lib.Dec.{eqb, leb, ltb}
 use lib.ListN.{length, getD}
-use Rattle.cards.specs.declared.Chip.{Chip}
-use Rattle.cards.specs.declared.Chip.the-variants.{Nct7802y, F75373s, Nct80}
-use Rattle.cards.specs.declared.Required.{Required}
+use Rattle.cards.specs.declared.types.Chip.{Chip}
+use Rattle.cards.specs.declared.types.Chip.the-variants.{Nct7802y, F75373s, Nct80}
+use Rattle.cards.specs.declared.types.Required.{Required}
 use Rattle.cards.specs.Rows.{Line, Row, Table, positions, rowIn, column}
 use Rattle.cards.specs.Sheets.{Sheet, powerOnIn, tableIn}
 use Rattle.cards.specs.Cards.{sheetOf}

@@ -8,9 +8,9 @@ use mathlib.Core.List.{List, [], _∷_}
 use borrow.Author.Tests.{eqb-true, ltb-true, leb-true}
 use lib.Dec.{eqb, leb, ltb}
 use lib.ListN.{length, getD}
-use Rattle.cards.specs.declared.Chip.{Chip}
-use Rattle.cards.specs.declared.Place.{Place}
-use Rattle.cards.specs.declared.Place.the-variants.{At, Nowhere}
+use Rattle.cards.specs.declared.types.Chip.{Chip}
+use Rattle.cards.specs.declared.types.Place.{Place}
+use Rattle.cards.specs.declared.types.Place.the-variants.{At, Nowhere}
 use Rattle.cards.specs.Rows.{Table, positions, rowIn, from, inARow}
 use Rattle.cards.specs.Sheets.{Sheet, hasTableIn, tableIn}
 use Rattle.cards.specs.Cards.{sheetOf, rowOf, tablesOf, hasTable, tableOf, tableFrom, baseOf, Places}

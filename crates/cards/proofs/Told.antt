@@ -3,11 +3,11 @@
 use Prim.Native.Nat.{ℕ}
 use mathlib.Core.Path.{_≡_, refl, sym, ap, _∙_}
 use mathlib.Core.Bool.{Bool, true, false, cond}
-use Rattle.cards.specs.declared.Chip.{Chip}
-use Rattle.cards.specs.declared.Named.{Named}
-use Rattle.cards.specs.declared.Named.the-variants.{Known, Unknown}
-use Rattle.cards.specs.declared.Place.{Place}
-use Rattle.cards.specs.declared.Place.the-variants.{At, Nowhere}
+use Rattle.cards.specs.declared.types.Chip.{Chip}
+use Rattle.cards.specs.declared.types.Named.{Named}
+use Rattle.cards.specs.declared.types.Named.the-variants.{Known, Unknown}
+use Rattle.cards.specs.declared.types.Place.{Place}
+use Rattle.cards.specs.declared.types.Place.the-variants.{At, Nowhere}
 use Rattle.cards.specs.Cards.{chipOf, whenKnown, unknown, hasTable, baseOf, tellsNamed, tellsPlace, Names, Places}
 use Rattle.cards.proofs.Numbers.{chip-number}
 

@@ -2,11 +2,11 @@
 -- Assumes nothing.
 use Prim.Native.Nat.{ℕ}
 use mathlib.Core.Path.{_≡_, sym, _∙_}
-use Rattle.cards.specs.declared.Chip.{Chip}
-use Rattle.cards.specs.declared.Named.{Named}
-use Rattle.cards.specs.declared.Place.{Place}
-use Rattle.cards.specs.declared.Masks.{Masks}
-use Rattle.cards.specs.declared.Required.{Required}
+use Rattle.cards.specs.declared.types.Chip.{Chip}
+use Rattle.cards.specs.declared.types.Named.{Named}
+use Rattle.cards.specs.declared.types.Place.{Place}
+use Rattle.cards.specs.declared.types.Masks.{Masks}
+use Rattle.cards.specs.declared.types.Required.{Required}
 use Rattle.cards.specs.Cards.{Names, Finds, PowersOn, Lists, Requires, Places}
 
 pub names-unique : {number : ℕ} {r s : Named} → Names number r → Names number s → r ≡ s

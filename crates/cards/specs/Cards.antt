@@ -6,14 +6,14 @@ use mathlib.Core.Path.{_≡_}
 use mathlib.Core.List.{List, [], _∷_}
 use lib.Dec.{eqb}
 use lib.ListN.{length, getD}
-use Rattle.cards.specs.declared.Chip.{Chip}
-use Rattle.cards.specs.declared.Chip.the-variants.{Nct7802y, F75373s, Nct80}
-use Rattle.cards.specs.declared.Named.{Named}
-use Rattle.cards.specs.declared.Named.the-variants.{Known, Unknown}
-use Rattle.cards.specs.declared.Masks.{Masks}
-use Rattle.cards.specs.declared.Required.{Required}
-use Rattle.cards.specs.declared.Place.{Place}
-use Rattle.cards.specs.declared.Place.the-variants.{At, Nowhere}
+use Rattle.cards.specs.declared.types.Chip.{Chip}
+use Rattle.cards.specs.declared.types.Chip.the-variants.{Nct7802y, F75373s, Nct80}
+use Rattle.cards.specs.declared.types.Named.{Named}
+use Rattle.cards.specs.declared.types.Named.the-variants.{Known, Unknown}
+use Rattle.cards.specs.declared.types.Masks.{Masks}
+use Rattle.cards.specs.declared.types.Required.{Required}
+use Rattle.cards.specs.declared.types.Place.{Place}
+use Rattle.cards.specs.declared.types.Place.the-variants.{At, Nowhere}
 use Rattle.cards.specs.Rows.{Line, Row, Table, inARow, masksIn, requiredIn, rowIn}
 use Rattle.cards.specs.Sheets.{Sheet, powerOnIn, hasTableIn, tableIn}
 use Rattle.cards.specs.Nct7802y as nct7802y

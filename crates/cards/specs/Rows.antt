@@ -5,8 +5,8 @@ use mathlib.Core.Bool.{cond}
 use mathlib.Core.List.{List, [], _∷_, _++_}
 use lib.Dec.{eqb}
 use lib.ListN.{getD}
-use Rattle.cards.specs.declared.Masks.{Masks}
-use Rattle.cards.specs.declared.Required.{Required}
+use Rattle.cards.specs.declared.types.Masks.{Masks}
+use Rattle.cards.specs.declared.types.Required.{Required}
 
 -- a register of the sheet: its address, its writable bits, its bits that clear on one, its power-on value
 abbrev pub Line : Type 0

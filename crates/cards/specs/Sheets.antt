@@ -5,7 +5,7 @@ use mathlib.Core.Bool.{Bool, _&&_}
 use mathlib.Core.List.{List, []}
 use lib.Dec.{leb}
 use lib.ListN.{length, getD}
-use Rattle.cards.specs.declared.Required.{Required}
+use Rattle.cards.specs.declared.types.Required.{Required}
 use Rattle.cards.specs.Rows.{Line, Table, Reading, rowIn, column}
 
 pub record Sheet : Type 0 where

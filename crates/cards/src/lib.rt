@@ -2,46 +2,15 @@
 mod f75373s;
 mod nct7802y;
 mod nct80;
+mod types;
 
+pub use types::Chip;
+pub use types::Masks;
+use types::NOTHING;
+pub use types::Named;
+pub use types::Place;
+pub use types::Required;
 ghost use Rattle.cards.specs.Cards.{Names, Finds, PowersOn, Lists, Requires, Places};
-
-pub enum Chip {
-    Nct7802y,
-    F75373s,
-    Nct80,
-}
-
-// What a chip number names.
-pub enum Named {
-    Known(Chip),
-    Unknown,
-}
-
-// What a write does in a register: the bits that it replaces, and those that it clears where it has a 1.
-pub struct Masks {
-    pub writable: u8,
-    pub clears: u8,
-}
-
-// A register that identity looks at: the bits that count, and what these hold.
-pub struct Required {
-    pub position: usize,
-    pub bits: u8,
-    pub value: u8,
-}
-
-// Where a fan table begins, if there is one.
-pub enum Place {
-    At(u8),
-    Nowhere,
-}
-
-// No bit of any register.
-const NOTHING: Required = Required {
-    position: 0,
-    bits: 0x00,
-    value: 0x00,
-};
 
 // The chip of a chip number, and none for every other number.
 pub fn chip_of(number: u8) -> Named

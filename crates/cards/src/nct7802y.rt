@@ -3,16 +3,16 @@ mod clears;
 mod power_on;
 mod writable;
 
-use crate::Masks;
-use crate::NOTHING;
-use crate::Place;
-use crate::Required;
+use crate::types::Masks;
+use crate::types::NOTHING;
+use crate::types::Place;
+use crate::types::Required;
 use clears::CLEARS;
 use power_on::POWER_ON;
 use writable::WRITABLE;
 ghost use mathlib.Core.Path.{_≡_};
 ghost use Rattle.cards.specs.Cards.{Places};
-ghost use Rattle.cards.specs.declared.Chip.the-variants.{Nct7802y};
+ghost use Rattle.cards.specs.declared.types.Chip.the-variants.{Nct7802y};
 ghost use Rattle.cards.specs.Nct7802y.{card, identity};
 ghost use Rattle.cards.specs.Rows.{masksIn, requiredIn, rowIn};
 

@@ -3,7 +3,7 @@ mod clears;
 mod power_on;
 mod writable;
 
-use crate::Masks;
+use crate::types::Masks;
 use clears::CLEARS;
 use power_on::POWER_ON;
 use writable::WRITABLE;

@@ -11,10 +11,10 @@ use Rattle.refusal.specs.declared.Outcome.the-variants.{Accepted}
 use Rattle.refusal.specs.Refusals.{numberOf}
 use Rattle.refusal.specs.Checks.{first, toldOr, told}
 use Rattle.refusal.proofs.Passed.{all-passed}
-use Rattle.cards.specs.declared.Chip.{Chip}
-use Rattle.cards.specs.declared.Named.{Named}
-use Rattle.cards.specs.declared.Named.the-variants.{Known}
-use Rattle.cards.specs.declared.Place.{Place}
+use Rattle.cards.specs.declared.types.Chip.{Chip}
+use Rattle.cards.specs.declared.types.Named.{Named}
+use Rattle.cards.specs.declared.types.Named.the-variants.{Known}
+use Rattle.cards.specs.declared.types.Place.{Place}
 use Rattle.cards.specs.Rows.{masksIn, requiredIn}
 use Rattle.cards.specs.Cards.{sheetOf, chipOf, unknown, hasTable, rowOf, baseOf, tellsNamed, tellsPlace, Names, Places}
 use Rattle.cards.proofs.Told.{names-told, places-told}

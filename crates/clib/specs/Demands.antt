@@ -14,10 +14,10 @@ use Rattle.refusal.specs.declared.Count.the-variants.{Of}
 use Rattle.refusal.specs.Refusals.{Numbers}
 use Rattle.refusal.specs.Answers.{tells, tellsCount}
 use Rattle.refusal.specs.Checks.{Check, first}
-use Rattle.cards.specs.declared.Chip.{Chip}
-use Rattle.cards.specs.declared.Named.{Named}
-use Rattle.cards.specs.declared.Named.the-variants.{Known}
-use Rattle.cards.specs.declared.Place.{Place}
+use Rattle.cards.specs.declared.types.Chip.{Chip}
+use Rattle.cards.specs.declared.types.Named.{Named}
+use Rattle.cards.specs.declared.types.Named.the-variants.{Known}
+use Rattle.cards.specs.declared.types.Place.{Place}
 use Rattle.cards.specs.Cards.{chipOf, unknown, hasTable, tellsNamed, tellsPlace, Names, Finds, PowersOn, Lists, Requires, Places}
 use Rattle.cards.specs.Identity.{confirmed}
 use Rattle.images.specs.declared.ByteRead.{ByteRead}

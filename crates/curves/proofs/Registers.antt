@@ -7,7 +7,7 @@ use mathlib.Core.List.{List, [], _∷_, map}
 use lib.ListN.{length, getD, take, drop}
 use lib.Seq.{drop-cons, take-all, take-at, getD-at}
 use Rattle.cards.specs.Rows.{from}
-use Rattle.cards.specs.declared.Chip.the-variants.{Nct7802y, F75373s}
+use Rattle.cards.specs.declared.types.Chip.the-variants.{Nct7802y, F75373s}
 use Rattle.curves.specs.declared.Plan.{Plan}
 use Rattle.curves.specs.Curves.{degree, points, slope, steps}
 use Rattle.curves.specs.Planned.{planned, bytesAt, asks}

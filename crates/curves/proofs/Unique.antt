@@ -3,7 +3,7 @@
 use Prim.Native.Nat.{ℕ}
 use mathlib.Core.Path.{_≡_, sym, _∙_}
 use mathlib.Core.Bool.{Bool}
-use Rattle.cards.specs.declared.Chip.{Chip}
+use Rattle.cards.specs.declared.types.Chip.{Chip}
 use Rattle.curves.specs.declared.Plan.{Plan}
 use Rattle.curves.specs.Planned.{Asks, OrdersTemperatures, OrdersSpeeds}
 

@@ -9,8 +9,8 @@ use mathlib.Core.List.{List, [], _∷_}
 use borrow.Author.Tests.{lt-ltb, ltb-true}
 use lib.Dec.{ltb}
 use lib.ListN.{length, take}
-use Rattle.cards.specs.declared.Chip.{Chip}
-use Rattle.cards.specs.declared.Required.{Required}
+use Rattle.cards.specs.declared.types.Chip.{Chip}
+use Rattle.cards.specs.declared.types.Required.{Required}
 use Rattle.cards.specs.Rows.{requiredIn}
 use Rattle.cards.specs.Cards.{sheetOf}
 use Rattle.cards.specs.Identity.{holds, allHold, agrees}

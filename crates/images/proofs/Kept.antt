@@ -12,9 +12,9 @@ use lib.Bits.{bitAnd, and-step, and-zero-r}
 use lib.Dec.{eqb, ltb}
 use lib.ListN.{length, getD, set}
 use lib.Seq.{getD-set-same, set-out}
-use Rattle.cards.specs.declared.Chip.{Chip}
-use Rattle.cards.specs.declared.Chip.the-variants.{Nct7802y, F75373s}
-use Rattle.cards.specs.declared.Required.{Required}
+use Rattle.cards.specs.declared.types.Chip.{Chip}
+use Rattle.cards.specs.declared.types.Chip.the-variants.{Nct7802y, F75373s}
+use Rattle.cards.specs.declared.types.Required.{Required}
 use Rattle.cards.specs.Rows.{Row, rowIn}
 use Rattle.cards.specs.Sheets.{Sheet}
 use Rattle.cards.specs.Cards.{sheetOf, rowOf, powerOn}

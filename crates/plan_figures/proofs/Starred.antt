@@ -6,8 +6,8 @@ use mathlib.Core.Bool.{Bool, true, false}
 use mathlib.Core.List.{List, [], _∷_}
 use lib.IntN.{ℤ, pos, negℤ}
 use Rattle.refusal.specs.Checks.{first, toldOr}
-use Rattle.cards.specs.declared.Chip.{Chip}
-use Rattle.cards.specs.declared.Chip.the-variants.{Nct7802y, F75373s}
+use Rattle.cards.specs.declared.types.Chip.{Chip}
+use Rattle.cards.specs.declared.types.Chip.the-variants.{Nct7802y, F75373s}
 use Rattle.readings.specs.Readings.{bytesOf, stepsAt}
 use Rattle.readings.specs.Promises.{stepsChecks, bytesChecks}
 use Rattle.watch.specs.declared.Behaviour.{Behaviour}

@@ -9,9 +9,9 @@ use lib.Dec.{lit<}
 use lib.ListN.{length, getD, take}
 use Rattle.refusal.specs.Checks.{Check, first}
 use Rattle.refusal.proofs.Passed.{passed}
-use Rattle.cards.specs.declared.Chip.{Chip}
-use Rattle.cards.specs.declared.Chip.the-variants.{Nct7802y, F75373s}
-use Rattle.cards.specs.declared.Named.the-variants.{Known}
+use Rattle.cards.specs.declared.types.Chip.{Chip}
+use Rattle.cards.specs.declared.types.Chip.the-variants.{Nct7802y, F75373s}
+use Rattle.cards.specs.declared.types.Named.the-variants.{Known}
 use Rattle.cards.specs.Cards.{chipOf, unknown, hasTable, noTable}
 use Rattle.curves.specs.declared.Plan.{Plan}
 use Rattle.curves.specs.Curves.{degree}

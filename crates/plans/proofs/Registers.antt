@@ -10,8 +10,8 @@ use lib.ListN.{length, take, drop, length-drop}
 use lib.Seq.{take-all, getD-drop}
 use Rattle.cards.specs.Rows.{Table, from}
 use Rattle.cards.specs.Cards.{sheetOf, hasTable, tableOf, tableFrom, baseOf}
-use Rattle.cards.specs.declared.Chip.{Chip}
-use Rattle.cards.specs.declared.Chip.the-variants.{Nct7802y, F75373s, Nct80}
+use Rattle.cards.specs.declared.types.Chip.{Chip}
+use Rattle.cards.specs.declared.types.Chip.the-variants.{Nct7802y, F75373s, Nct80}
 use Rattle.cards.proofs.Tables.{table-at-base}
 use Rattle.curves.specs.Curves.{steps, words}
 use Rattle.curves.specs.Planned.{Curve, planned, bytesAt, asks}

@@ -8,7 +8,7 @@ use Rattle.refusal.proofs.Numbers.{numberOf-injective, numberOf-positive}
 use Rattle.refusal.proofs.Answers.{tells-injective}
 use Rattle.refusal.specs.declared.Outcome.{Outcome}
 use Rattle.refusal.specs.Checks.{Check}
-use Rattle.cards.specs.declared.Chip.{Chip}
+use Rattle.cards.specs.declared.types.Chip.{Chip}
 use Rattle.curves.specs.declared.Plan.{Plan}
 use Rattle.plans.specs.declared.Asked.{Asked}
 use Rattle.plans.specs.declared.Asked.the-variants as asked

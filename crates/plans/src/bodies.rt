@@ -6,7 +6,7 @@ ghost use Prim.Native.Nat.{_+_, _*_, _≤_};
 ghost use lib.ListN.{getD};
 ghost use Rattle.cards.specs.Rows.{from};
 ghost use Rattle.curves.specs.Curves.{words};
-ghost use Rattle.cards.specs.declared.Chip.the-variants.{Nct80};
+ghost use Rattle.cards.specs.declared.types.Chip.the-variants.{Nct80};
 ghost use Rattle.curves.specs.Planned.{bytesAt};
 ghost use Rattle.plans.specs.Plans.{decoded};
 

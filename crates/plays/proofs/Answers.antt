@@ -16,8 +16,8 @@ use Rattle.refusal.specs.Checks.{first}
 use Rattle.refusal.proofs.Passed.{all-passed, first-passed, when-refused, told-refused}
 use Rattle.refusal.specs.declared.Count.{Count}
 use Rattle.refusal.specs.declared.Count.the-variants as counted
-use Rattle.cards.specs.declared.Named.{Named}
-use Rattle.cards.specs.declared.Named.the-variants.{Known, Unknown}
+use Rattle.cards.specs.declared.types.Named.{Named}
+use Rattle.cards.specs.declared.types.Named.the-variants.{Known, Unknown}
 use Rattle.cards.specs.Cards.{chipOf, whenKnown}
 use Rattle.identities.specs.Identities.{identityChecks}
 use Rattle.curves.specs.declared.Plan.{Plan}

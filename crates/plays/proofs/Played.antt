@@ -10,7 +10,7 @@ use mathlib.Core.List.{List, [], _∷_, _++_}
 use borrow.Author.Tests.{eqb-true, eqb-false}
 use lib.Dec.{eqb}
 use lib.ListN.{length, getD, take}
-use Rattle.cards.specs.declared.Chip.{Chip}
+use Rattle.cards.specs.declared.types.Chip.{Chip}
 use Rattle.cards.specs.Rows.{positions}
 use Rattle.cards.specs.Cards.{rowOf, hasTable, tableOf}
 use Rattle.cards.proofs.Tables.{table-mask, table-within, table-distinct}

@@ -5,8 +5,8 @@ use native.Mathlib.Nat.{le-refl, le-trans, min-le-left, min-le-right, le-max-lef
 use mathlib.Core.Path.{_≡_, refl, sym, subst}
 use mathlib.Core.List.{List, map}
 use lib.ListN.{length, getD, take, replicate}
-use Rattle.cards.specs.declared.Chip.{Chip}
-use Rattle.cards.specs.declared.Chip.the-variants.{Nct7802y, F75373s, Nct80}
+use Rattle.cards.specs.declared.types.Chip.{Chip}
+use Rattle.cards.specs.declared.types.Chip.the-variants.{Nct7802y, F75373s, Nct80}
 use Rattle.curves.specs.Curves.{degree}
 use Rattle.curves.specs.Orders.{Each, MoreDuty, LessCount}
 use Rattle.curves.specs.Planned.{Curve, asks, askedDuty}

@@ -14,9 +14,9 @@ use Rattle.refusal.specs.declared.Outcome.{Outcome}
 use Rattle.refusal.specs.declared.Outcome.the-variants as outcome
 use Rattle.refusal.specs.declared.Count.the-variants as counted
 use Rattle.refusal.proofs.Passed.{all-passed, when-passed, when-refused, told-passed, told-refused}
-use Rattle.cards.specs.declared.Chip.{Chip}
-use Rattle.cards.specs.declared.Named.{Named}
-use Rattle.cards.specs.declared.Named.the-variants.{Known, Unknown}
+use Rattle.cards.specs.declared.types.Chip.{Chip}
+use Rattle.cards.specs.declared.types.Named.{Named}
+use Rattle.cards.specs.declared.types.Named.the-variants.{Known, Unknown}
 use Rattle.cards.specs.Cards.{chipOf, whenKnown}
 use Rattle.images.specs.Bytes.{written}
 use Rattle.identities.specs.Identities.{identityChecks, Confirms}

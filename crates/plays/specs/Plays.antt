@@ -7,7 +7,7 @@ use lib.ListN.{length, take}
 use Rattle.refusal.specs.declared.Count.{Count}
 use Rattle.refusal.specs.Answers.{tellsCount}
 use Rattle.refusal.specs.Checks.{Check, told, left}
-use Rattle.cards.specs.declared.Chip.{Chip}
+use Rattle.cards.specs.declared.types.Chip.{Chip}
 use Rattle.cards.specs.Cards.{chipOf, whenKnown, notAnImage}
 use Rattle.images.specs.Bytes.{written}
 use Rattle.identities.specs.Identities.{unconfirmed, identityChecks}

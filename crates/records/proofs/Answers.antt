@@ -17,8 +17,8 @@ use Rattle.refusal.proofs.Passed.{all-passed, first-passed, first-refused, when
 use Rattle.refusal.specs.declared.Count.{Count}
 use Rattle.refusal.specs.declared.Count.the-variants as counted
 use Rattle.refusal.specs.Answers.{tellsCount}
-use Rattle.cards.specs.declared.Chip.{Chip}
-use Rattle.cards.specs.declared.Named.the-variants.{Known}
+use Rattle.cards.specs.declared.types.Chip.{Chip}
+use Rattle.cards.specs.declared.types.Named.the-variants.{Known}
 use Rattle.cards.specs.Cards.{chipOf, whenKnown, hasTable}
 use Rattle.cards.proofs.Numbers.{chip-known}
 use Rattle.curves.specs.declared.Plan.{Plan}

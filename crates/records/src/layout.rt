@@ -4,7 +4,7 @@ use curves::Plan;
 ghost use Prim.Native.Nat.{_<_};
 ghost use mathlib.Core.Path.{_≡_};
 ghost use lib.ListN.{getD};
-ghost use Rattle.cards.specs.declared.Chip.the-variants.{Nct7802y, F75373s};
+ghost use Rattle.cards.specs.declared.types.Chip.the-variants.{Nct7802y, F75373s};
 ghost use Rattle.curves.specs.Planned.{planned};
 ghost use Rattle.records.specs.Records.{body, recordLength, recordOf};
 

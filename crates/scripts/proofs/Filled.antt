@@ -6,8 +6,8 @@ use mathlib.Core.Path.{_≡_, sym, ap, _∙_}
 use mathlib.Core.Bool.{So}
 use mathlib.Core.List.{[], _∷_}
 use lib.ListN.{length, length-append}
-use Rattle.cards.specs.declared.Chip.{Chip}
-use Rattle.cards.specs.declared.Chip.the-variants.{Nct7802y, F75373s, Nct80}
+use Rattle.cards.specs.declared.types.Chip.{Chip}
+use Rattle.cards.specs.declared.types.Chip.the-variants.{Nct7802y, F75373s, Nct80}
 use Rattle.cards.specs.Rows.{Table}
 use Rattle.cards.specs.Cards.{sheetOf, hasTable, tableOf}
 use Rattle.cards.proofs.Tables.{table-number, table-at-base}

@@ -14,10 +14,10 @@ use Rattle.refusal.specs.Checks.{first}
 use Rattle.refusal.proofs.Passed.{Passed, all-passed}
 use Rattle.refusal.specs.declared.Count.{Count}
 use Rattle.refusal.specs.Answers.{tellsCount}
-use Rattle.cards.specs.declared.Chip.{Chip}
-use Rattle.cards.specs.declared.Chip.the-variants.{Nct7802y, F75373s, Nct80}
-use Rattle.cards.specs.declared.Named.{Named}
-use Rattle.cards.specs.declared.Named.the-variants.{Known, Unknown}
+use Rattle.cards.specs.declared.types.Chip.{Chip}
+use Rattle.cards.specs.declared.types.Chip.the-variants.{Nct7802y, F75373s, Nct80}
+use Rattle.cards.specs.declared.types.Named.{Named}
+use Rattle.cards.specs.declared.types.Named.the-variants.{Known, Unknown}
 use Rattle.cards.specs.Rows.{Table}
 use Rattle.cards.specs.Cards.{sheetOf, chipOf, whenKnown, hasTable, tableFrom, baseOf}
 use Rattle.cards.proofs.Tables.{table-number, table-at-base}

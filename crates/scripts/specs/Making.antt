@@ -9,8 +9,8 @@ use lib.ListN.{length, getD, take, drop}
 use Rattle.refusal.specs.declared.Count.{Count}
 use Rattle.refusal.specs.Answers.{tellsCount}
 use Rattle.refusal.specs.Checks.{told, left}
-use Rattle.cards.specs.declared.Chip.{Chip}
-use Rattle.cards.specs.declared.Chip.the-variants.{Nct7802y, F75373s, Nct80}
+use Rattle.cards.specs.declared.types.Chip.{Chip}
+use Rattle.cards.specs.declared.types.Chip.the-variants.{Nct7802y, F75373s, Nct80}
 use Rattle.cards.specs.Cards.{chipOf, whenKnown, hasTable, baseOf}
 use Rattle.scripts.specs.declared.making.Layout.{Layout}
 use Rattle.scripts.specs.declared.making.Pair as code

@@ -10,10 +10,10 @@ use lib.Dec.{ltb}
 use lib.ListN.{length, length-drop}
 use Rattle.refusal.specs.Checks.{first}
 use Rattle.refusal.proofs.Passed.{Passed, all-passed}
-use Rattle.cards.specs.declared.Chip.{Chip}
-use Rattle.cards.specs.declared.Chip.the-variants.{Nct7802y, F75373s, Nct80}
-use Rattle.cards.specs.declared.Named.{Named}
-use Rattle.cards.specs.declared.Named.the-variants.{Known, Unknown}
+use Rattle.cards.specs.declared.types.Chip.{Chip}
+use Rattle.cards.specs.declared.types.Chip.the-variants.{Nct7802y, F75373s, Nct80}
+use Rattle.cards.specs.declared.types.Named.{Named}
+use Rattle.cards.specs.declared.types.Named.the-variants.{Known, Unknown}
 use Rattle.cards.specs.Cards.{sheetOf, chipOf, hasTable}
 use Rattle.cards.proofs.Tables.{table-number}
 use Rattle.curves.specs.declared.Plan.{Plan}

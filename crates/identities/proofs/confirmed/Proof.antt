@@ -9,7 +9,7 @@ use borrow.Author.Tests.{not-true, not-false}
 use lib.Dec.{ltb}
 use lib.ListN.{length, take}
 use lib.Seq.{take-all}
-use Rattle.cards.specs.declared.Required.{Required}
+use Rattle.cards.specs.declared.types.Required.{Required}
 use Rattle.cards.specs.Cards.{sheetOf}
 use Rattle.cards.specs.Identity.{holds, allHold, confirmed}
 use Rattle.identities.proofs.Asked.{inside, none-asked, one-more, one-fails, all-asked}

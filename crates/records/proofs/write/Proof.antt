@@ -12,8 +12,8 @@ use lib.Seq.{paste, paste-suc, length-paste}
 use Rattle.refusal.specs.declared.Refusal.{Refusal}
 use Rattle.refusal.specs.Answers.{tells}
 use Rattle.refusal.specs.Checks.{first}
-use Rattle.cards.specs.declared.Chip.{Chip}
-use Rattle.cards.specs.declared.Named.the-variants.{Known}
+use Rattle.cards.specs.declared.types.Chip.{Chip}
+use Rattle.cards.specs.declared.types.Named.the-variants.{Known}
 use Rattle.cards.specs.Cards.{chipOf}
 use Rattle.curves.specs.declared.Plan.{Plan}
 use Rattle.plans.specs.Plans.{planChecks}

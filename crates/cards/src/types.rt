@@ -1,0 +1,38 @@
+// What the chips' pages and their callers speak of.
+pub enum Chip {
+    Nct7802y,
+    F75373s,
+    Nct80,
+}
+
+// What a chip number names.
+pub enum Named {
+    Known(Chip),
+    Unknown,
+}
+
+// What a write does in a register: the bits that it replaces, and those that it clears where it has a 1.
+pub struct Masks {
+    pub writable: u8,
+    pub clears: u8,
+}
+
+// A register that identity looks at: the bits that count, and what these hold.
+pub struct Required {
+    pub position: usize,
+    pub bits: u8,
+    pub value: u8,
+}
+
+// Where a fan table begins, if there is one.
+pub enum Place {
+    At(u8),
+    Nowhere,
+}
+
+// No bit of any register.
+pub(crate) const NOTHING: Required = Required {
+    position: 0,
+    bits: 0x00,
+    value: 0x00,
+};
