@@ -1,6 +1,6 @@
 -- Loops that walk an array from the front: what is left to walk answers as the whole list does, so each loop's proof is its steps.
 -- Assumes nothing.
-use Prim.Native.Nat.{ℕ, zero, suc, _+_, _≤_, _<_}
+use Prim.Native.Nat.{ℕ, zero, suc, _+_, _-_, _≤_, _<_}
 use native.Mathlib.Numerals.{add-one}
 use native.Mathlib.Omega.{arith}
 use mathlib.Core.Path.{_≡_, refl, sym, ap, _∙_}
@@ -8,44 +8,47 @@ use mathlib.Core.Bool.{Bool, true, false, _&&_}
 use mathlib.Core.List.{List, [], _∷_}
 use borrow.Author.Tests.{le-leb, lt-leb, lt-ltb, le-ltb}
 use lib.Dec.{leb}
-use lib.ListN.{length, getD, drop, drop-of-length-le}
+use lib.ListN.{length, getD, drop, length-drop, drop-of-length-le}
 use lib.Seq.{drop-cons}
 use Rattle.curves.specs.Curves.{Point, points, mean, above, below, slope, steps}
 use Rattle.curves.specs.Orders.{chained, lastAtMost}
 
--- an order test that has come to the place k
+-- an order test that has come to the place k, behind a first value
 pub record Chain (related : ℕ → ℕ → Bool) (l : List ℕ) (k : ℕ) : Type 0 where
-  pub within : k < length l
-  pub same : chained related (drop k l) ≡ chained related l
+  pub behind : 1 ≤ k
+  pub same : chained related (drop (k - 1) l) ≡ chained related l
 
-pub chain-start : (related : ℕ → ℕ → Bool) (l : List ℕ) → 0 < length l → Chain related l 0
-chain-start related l h = record { within = h; same = refl }
+pub chain-start : (related : ℕ → ℕ → Bool) (l : List ℕ) → Chain related l 1
+chain-start related l = record { behind = omega arith; same = refl }
+
+-- one value alone is in order
+alone : (related : ℕ → ℕ → Bool) (l : List ℕ) → length l ≤ 1 → chained related l ≡ true
+alone related [] h = refl
+alone related (a ∷ []) h = refl
+alone related (a ∷ (b ∷ l)) h = absurd (omega arith)
 
 module _ {related : ℕ → ℕ → Bool} {l : List ℕ} {k : ℕ} (C : Chain related l k) where
-  two : k + 1 < length l → drop k l ≡ getD l k 0 ∷ (getD l (k + 1) 0 ∷ drop (suc (k + 1)) l)
+  two : k < length l → drop (k - 1) l ≡ getD l (k - 1) 0 ∷ (getD l k 0 ∷ drop (suc k) l)
   two h =
-      drop-cons l k 0 (C .within)
-      ∙ ap (λ (m : List ℕ). getD l k 0 ∷ m) (ap (λ (n : ℕ). drop n l) (sym (add-one k)) ∙ drop-cons l (k + 1) 0 h)
+      let next : suc (k - 1) ≡ k = omega (arith, C .behind) in
+      drop-cons l (k - 1) 0 (omega arith)
+      ∙ ap (λ (m : List ℕ). getD l (k - 1) 0 ∷ m) (ap (λ (n : ℕ). drop n l) next ∙ drop-cons l k 0 h)
 
-  pub chain-next : k + 1 < length l → related (getD l k 0) (getD l (k + 1) 0) ≡ true → Chain related l (k + 1)
+  -- what the test says of two values, and the rest
+  tested : {b : Bool} → k < length l → related (getD l (k - 1) 0) (getD l k 0) ≡ b → (b && chained related (getD l k 0 ∷ drop (suc k) l)) ≡ chained related l
+  tested h e =
+      sym (ap (chained related) (two h) ∙ ap (λ (b : Bool). b && chained related (getD l k 0 ∷ drop (suc k) l)) e) ∙ C .same
+
+  pub chain-next : k < length l → related (getD l (k - 1) 0) (getD l k 0) ≡ true → Chain related l (k + 1)
   chain-next h e =
-      record {
-        within = h;
-        same =
-            ap (chained related) (drop-cons l (k + 1) 0 h)
-            ∙ sym (ap (chained related) (two h) ∙ ap (λ (b : Bool). b && chained related (getD l (k + 1) 0 ∷ drop (suc (k + 1)) l)) e)
-            ∙ C .same;
-      }
+      let here : k + 1 - 1 ≡ k = omega arith in
+      record { behind = omega arith; same = ap (λ (n : ℕ). chained related (drop n l)) here ∙ ap (chained related) (drop-cons l k 0 h) ∙ tested h e }
 
-  pub chain-broken : k + 1 < length l → related (getD l k 0) (getD l (k + 1) 0) ≡ false → false ≡ chained related l
-  chain-broken h e =
-      sym (ap (chained related) (two h) ∙ ap (λ (b : Bool). b && chained related (getD l (k + 1) 0 ∷ drop (suc (k + 1)) l)) e)
-      ∙ C .same
+  pub chain-broken : k < length l → related (getD l (k - 1) 0) (getD l k 0) ≡ false → false ≡ chained related l
+  chain-broken h e = tested h e
 
-  pub chain-whole : length l ≤ k + 1 → true ≡ chained related l
-  chain-whole h =
-      sym (ap (chained related) (drop-cons l k 0 (C .within) ∙ ap (λ (m : List ℕ). getD l k 0 ∷ m) (drop-of-length-le l {i = suc k} (omega arith))))
-      ∙ C .same
+  pub chain-whole : length l ≤ k → true ≡ chained related l
+  chain-whole h = sym (alone related (drop (k - 1) l) (omega (arith, length-drop (k - 1) l))) ∙ C .same
 
 -- the last of n + 1 temperatures
 pub last-at : (l : List ℕ) (n critical : ℕ) → length l ≡ suc n → lastAtMost l critical ≡ leb (getD l n 0) critical
