@@ -18,7 +18,8 @@ use Rattle.plans.specs.declared.Asked.{Asked}
 use Rattle.plans.specs.declared.Asked.the-variants as asked
 use Rattle.plans.specs.Plans.{decoded, askPlanChecks, orderChecks, planChecks, AsksPlan, AsksPlanBy}
 use Rattle.records.specs.declared.Found.{Found}
-use Rattle.records.specs.Records.{encoded, planOf, bodyChecks, bodyPlanChecks, roomChecks, writeChecks, Sized, Plans, Writes, WritesBy}
+use Rattle.curves.specs.Values.{Sized}
+use Rattle.records.specs.Records.{encoded, planOf, bodyChecks, bodyPlanChecks, roomChecks, writeChecks, Plans, Writes, WritesBy}
 use Rattle.records.proofs.Answers.{whole-asked, whole-judged, plan-taken}
 use Rattle.records.proofs.Encoding.{decoded-sized}
 use Rattle.scripts.specs.Scripts.{scriptFor, roomForPairs, scriptChecks, Scripts, ScriptsBy}

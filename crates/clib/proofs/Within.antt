@@ -23,7 +23,8 @@ use Rattle.curves.specs.declared.Plan.{Plan}
 use Rattle.curves.specs.Curves.{points}
 use Rattle.curves.specs.Orders.{fulls}
 use Rattle.curves.specs.Planned.{planned}
-use Rattle.records.specs.Records.{Sized, roomChecks, writeChecks, encoded, recordLength, chipIn, Writes}
+use Rattle.curves.specs.Values.{Sized}
+use Rattle.records.specs.Records.{roomChecks, writeChecks, encoded, recordLength, chipIn, Writes}
 use Rattle.records.proofs.Encoding.{length-short, record-short}
 use Rattle.scripts.specs.Scripts.{scriptOf, scriptFor, fullOf, scriptChecks, Scripts}
 use Rattle.plays.specs.Plays.{playChecks, Plays}

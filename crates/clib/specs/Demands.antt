@@ -34,6 +34,7 @@ use Rattle.watch.specs.declared.Watch.{Watch}
 use Rattle.watch.specs.declared.Sampled.{Sampled}
 use Rattle.watch.specs.Promises as watch
 use Rattle.curves.specs.declared.Plan.{Plan}
+use Rattle.curves.specs.Values.{Sized}
 use Rattle.curves.specs.Planned as curves
 use Rattle.plans.specs.declared.Asked.{Asked}
 use Rattle.plans.specs.Plans as plans
@@ -165,7 +166,7 @@ pub record Demand2 : Type 0 where
       → records.Reads bytes found → found .answer ≡ Of n → records.Writes (found .plan) old r new → n ≤ length old
       → (r ≡ Of n) × (new ≡ take n bytes ++ drop n old)
   -- .. and the record of a plan has that plan, without the other chip's values
-  pub plan-and-back : (plan : Plan) (old : List ℕ) (n : ℕ) (new : List ℕ) (found : Found) → records.Sized plan
+  pub plan-and-back : (plan : Plan) (old : List ℕ) (n : ℕ) (new : List ℕ) (found : Found) → Sized plan
       → records.Writes plan old (Of n) new → records.Reads new found → (found .answer ≡ Of n) × (found .plan ≡ records.own plan)
   -- "A chip is accepted only if every identity bit agrees."
   pub every-bit : (number : ℕ) (chip : Chip) (image : List ℕ) → chipOf number ≡ Known chip → Confirms number image Accepted → confirmed chip image ≡ true

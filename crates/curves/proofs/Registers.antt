@@ -24,11 +24,11 @@ pub spelled : (l : List ℕ) (n : ℕ) → length l ≡ n → bytesAt l (from 0 
 spelled l n h = in-a-row l 0 n (omega arith) ∙ take-all n l (omega arith)
 
 -- a plan asks what the curve of its registers asks
-pub planned-duty : (plan : Plan) (t : ℕ) → length (plan .temperatures) ≡ 4
-    → slope 255 (points (map degree (plan .temperatures)) (plan .duties)) (degree (plan .critical)) (degree t)
+pub planned-duty : (plan : Plan) (t : ℕ) → length (plan .slope .temperatures) ≡ 4
+    → slope 255 (points (map degree (plan .slope .temperatures)) (plan .slope .duties)) (degree (plan .slope .critical)) (degree t)
     ≡ asks Nct7802y (planned Nct7802y plan) t
 planned-duty plan t h =
-    rw (take-at (plan .temperatures) (plan .critical ∷ []) 4 h, getD-at (plan .temperatures) (plan .critical) [] 0 4 h)
+    rw (take-at (plan .slope .temperatures) (plan .slope .critical ∷ []) 4 h, getD-at (plan .slope .temperatures) (plan .slope .critical) [] 0 4 h)
 
-pub planned-count : (plan : Plan) (t : ℕ) → steps (plan .bounds) (plan .counts) t ≡ asks F75373s (planned F75373s plan) t
-planned-count plan t = rw (words-halves (plan .counts))
+pub planned-count : (plan : Plan) (t : ℕ) → steps (plan .steps .bounds) (plan .steps .counts) t ≡ asks F75373s (planned F75373s plan) t
+planned-count plan t = rw (words-halves (plan .steps .counts))

@@ -18,8 +18,8 @@ pub record Curve : Type 0 where
 
 -- the curve of a plan: "the body in the register order"
 abbrev pub planned : Chip → Plan → Curve
-planned Nct7802y plan = record { settings = plan .temperatures ++ (plan .critical ∷ []); speeds = plan .duties }
-planned F75373s plan = record { settings = plan .bounds; speeds = halves (plan .counts) }
+planned Nct7802y plan = record { settings = plan .slope .temperatures ++ (plan .slope .critical ∷ []); speeds = plan .slope .duties }
+planned F75373s plan = record { settings = plan .steps .bounds; speeds = halves (plan .steps .counts) }
 planned Nct80 plan = record { settings = []; speeds = [] }
 
 -- the bytes that stand at positions
@@ -41,14 +41,14 @@ asks Nct80 curve t = 0
 -- "Accepted if T1 < T2 < T3 < T4, T4 at most critical (else 6)"; "Accepted if B1 > B2 > B3 > B4 (else 6)"
 abbrev pub temperaturesInOrder : Chip → Plan → Bool
 temperaturesInOrder Nct7802y plan =
-    rising (map degree (plan .temperatures)) && lastAtMost (map degree (plan .temperatures)) (degree (plan .critical))
-temperaturesInOrder F75373s plan = falling (plan .bounds)
+    rising (map degree (plan .slope .temperatures)) && lastAtMost (map degree (plan .slope .temperatures)) (degree (plan .slope .critical))
+temperaturesInOrder F75373s plan = falling (plan .steps .bounds)
 temperaturesInOrder Nct80 plan = true
 
 -- "the duties never fall from FL1 to FL4 (else 7)"; "counts never fall from C1 to C5 (else 7)"
 abbrev pub speedsInOrder : Chip → Plan → Bool
-speedsInOrder Nct7802y plan = neverFalls (plan .duties)
-speedsInOrder F75373s plan = neverFalls (plan .counts)
+speedsInOrder Nct7802y plan = neverFalls (plan .slope .duties)
+speedsInOrder F75373s plan = neverFalls (plan .steps .counts)
 speedsInOrder Nct80 plan = true
 
 -- what `curves::speed_of` promises

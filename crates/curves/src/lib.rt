@@ -7,18 +7,37 @@ mod steps;
 use cards::Chip;
 ghost use Rattle.curves.specs.Planned.{Asks, OrdersTemperatures, OrdersSpeeds};
 
-// A plan of either chip. Temperatures are bytes as their registers hold them: two's complement for chip 1, unsigned for chip 2.
-pub struct Plan {
-    pub chip: u8,
-    pub table: u8,
-    // Chip 1: T1 to T4, critical, FL1 to FL4.
+// The values of chip 1: T1 to T4, critical, FL1 to FL4. Temperatures are bytes as their registers hold them, in two's complement.
+pub struct SlopeValues {
     pub temperatures: [u8; 4],
     pub critical: u8,
     pub duties: [u8; 4],
-    // Chip 2: B1 to B4, C1 to C5.
+}
+
+// The values of chip 2: B1 to B4, C1 to C5. Temperatures are unsigned.
+pub struct StepValues {
     pub bounds: [u8; 4],
     pub counts: [u16; 5],
 }
+
+// A plan has room for the values of either chip, and those of the other chip are zero in what is read.
+pub struct Plan {
+    pub chip: u8,
+    pub table: u8,
+    pub slope: SlopeValues,
+    pub steps: StepValues,
+}
+
+pub const NO_SLOPE: SlopeValues = SlopeValues {
+    temperatures: [0; 4],
+    critical: 0,
+    duties: [0; 4],
+};
+
+pub const NO_STEPS: StepValues = StepValues {
+    bounds: [0; 4],
+    counts: [0; 5],
+};
 
 // The speed that a plan's curve asks of its chip at a temperature: a duty or a count, and 0 of a chip without a fan table.
 pub fn speed_of(chip: Chip, plan: Plan, t: u8) -> u16
@@ -26,13 +45,15 @@ pub fn speed_of(chip: Chip, plan: Plan, t: u8) -> u16
 {
     match chip {
         Chip::Nct7802y => {
-            let temperatures = plan.temperatures;
-            let duties = plan.duties;
-            slope::asked_duty(temperatures, plan.critical, duties, t) as u16
+            let values = plan.slope;
+            let temperatures = values.temperatures;
+            let duties = values.duties;
+            slope::asked_duty(temperatures, values.critical, duties, t) as u16
         }
         Chip::F75373s => {
-            let bounds = plan.bounds;
-            let counts = plan.counts;
+            let values = plan.steps;
+            let bounds = values.bounds;
+            let counts = values.counts;
             steps::asked_count(bounds, counts, t)
         }
         Chip::Nct80 => 0,
@@ -45,11 +66,13 @@ pub fn temperatures_in_order(chip: Chip, plan: Plan) -> bool
 {
     match chip {
         Chip::Nct7802y => {
-            let temperatures = plan.temperatures;
-            orders::rising_to_critical(temperatures, plan.critical)
+            let values = plan.slope;
+            let temperatures = values.temperatures;
+            orders::rising_to_critical(temperatures, values.critical)
         }
         Chip::F75373s => {
-            let bounds = plan.bounds;
+            let values = plan.steps;
+            let bounds = values.bounds;
             orders::falling(bounds)
         }
         Chip::Nct80 => true,
@@ -62,11 +85,13 @@ pub fn speeds_in_order(chip: Chip, plan: Plan) -> bool
 {
     match chip {
         Chip::Nct7802y => {
-            let duties = plan.duties;
+            let values = plan.slope;
+            let duties = values.duties;
             orders::duties_never_fall(duties)
         }
         Chip::F75373s => {
-            let counts = plan.counts;
+            let values = plan.steps;
+            let counts = values.counts;
             orders::counts_never_fall(counts)
         }
         Chip::Nct80 => true,

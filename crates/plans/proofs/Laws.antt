@@ -45,14 +45,14 @@ accepted-known plan h =
     (lit< tt) h .0
 
 -- chip 1: the duty asked never falls as T rises
-pub duty-never-falls : (plan : Plan) (t u : ℕ) → Accepted Nct7802y plan → Each MoreDuty (fulls 255 (plan .duties)) (plan .duties)
+pub duty-never-falls : (plan : Plan) (t u : ℕ) → Accepted Nct7802y plan → Each MoreDuty (fulls 255 (plan .slope .duties)) (plan .slope .duties)
     → degree t ≤ degree u → asks Nct7802y (planned Nct7802y plan) t ≤ asks Nct7802y (planned Nct7802y plan) u
 duty-never-falls plan t u A bytes h =
     let settings = planned Nct7802y plan .settings in
-    slope-never-falls 255 (map degree (take 4 settings)) (plan .duties) (degree (getD settings 4 0)) (degree t) (degree u) (A .speeds) bytes h
+    slope-never-falls 255 (map degree (take 4 settings)) (plan .slope .duties) (degree (getD settings 4 0)) (degree t) (degree u) (A .speeds) bytes h
 
 -- chip 2: the count asked never rises as T rises
-pub count-never-rises : (plan : Plan) (t u : ℕ) → Accepted F75373s plan → length (plan .bounds) < length (plan .counts) → t ≤ u
+pub count-never-rises : (plan : Plan) (t u : ℕ) → Accepted F75373s plan → length (plan .steps .bounds) < length (plan .steps .counts) → t ≤ u
     → asks F75373s (planned F75373s plan) u ≤ asks F75373s (planned F75373s plan) t
 count-never-rises plan t u A longer h =
-    rw (words-halves (plan .counts)) (steps-never-rises (plan .bounds) (plan .counts) t u (A .speeds) longer h)
+    rw (words-halves (plan .steps .counts)) (steps-never-rises (plan .steps .bounds) (plan .steps .counts) t u (A .speeds) longer h)

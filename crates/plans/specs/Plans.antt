@@ -4,7 +4,7 @@ use Prim.Native.Nat.{ℕ}
 use mathlib.Core.Path.{_≡_}
 use mathlib.Core.Bool.{Bool, true, not}
 use mathlib.Core.List.{List, [], _∷_, _++_}
-use lib.ListN.{getD, replicate}
+use lib.ListN.{getD}
 use Rattle.refusal.specs.declared.Outcome.{Outcome}
 use Rattle.refusal.specs.Refusals.{numberOf}
 use Rattle.refusal.specs.Answers.{tells}
@@ -13,8 +13,11 @@ use Rattle.cards.specs.declared.types.Chip.{Chip}
 use Rattle.cards.specs.declared.types.Chip.the-variants.{Nct7802y, F75373s, Nct80}
 use Rattle.cards.specs.Rows.{Table, from}
 use Rattle.cards.specs.Cards.{chipOf, whenKnown, unknown, noTable, notAnImage, tableOf}
+use Rattle.curves.specs.declared.SlopeValues.{SlopeValues}
+use Rattle.curves.specs.declared.StepValues.{StepValues}
 use Rattle.curves.specs.declared.Plan.{Plan}
 use Rattle.curves.specs.Curves.{words}
+use Rattle.curves.specs.Values.{noSlope, noSteps}
 use Rattle.curves.specs.Planned.{Curve, planned, bytesAt, asks, temperaturesInOrder, speedsInOrder}
 use Rattle.plans.specs.declared.Asked.{Asked}
 use Rattle.plans.specs.declared.Asked.the-variants as asked
@@ -23,42 +26,18 @@ use Rattle.plans.specs.declared.Asked.the-variants as asked
 abbrev pub held : Table → List ℕ → Curve
 held table image = record { settings = bytesAt image (table .settings); speeds = bytesAt image (table .speeds) }
 
-abbrev pub zeros : ℕ → List ℕ
-zeros n = replicate n 0
+-- the values that stand in a body's bytes, "in the register order". What a short body lacks counts as 0.
+abbrev pub slopeIn : List ℕ → SlopeValues
+slopeIn body = record { temperatures = bytesAt body (from 0 4); critical = getD body 4 0; duties = bytesAt body (from 5 4) }
 
--- the plan whose curve stands in a body's bytes, "in the register order"; "those of the other chip are zero in what is read".
--- What a short body lacks counts as 0.
+abbrev pub stepsIn : List ℕ → StepValues
+stepsIn body = record { bounds = bytesAt body (from 0 4); counts = words (bytesAt body (from 4 10)) }
+
+-- the plan whose curve stands in a body's bytes; "those of the other chip are zero in what is read"
 abbrev pub decoded : Chip → ℕ → List ℕ → Plan
-decoded Nct7802y table body =
-    record {
-      chip = 1;
-      table = table;
-      temperatures = bytesAt body (from 0 4);
-      critical = getD body 4 0;
-      duties = bytesAt body (from 5 4);
-      bounds = zeros 4;
-      counts = zeros 5;
-    }
-decoded F75373s table body =
-    record {
-      chip = 2;
-      table = table;
-      temperatures = zeros 4;
-      critical = 0;
-      duties = zeros 4;
-      bounds = bytesAt body (from 0 4);
-      counts = words (bytesAt body (from 4 10));
-    }
-decoded Nct80 table body =
-    record {
-      chip = 3;
-      table = table;
-      temperatures = zeros 4;
-      critical = 0;
-      duties = zeros 4;
-      bounds = zeros 4;
-      counts = zeros 5;
-    }
+decoded Nct7802y table body = record { chip = 1; table = table; slope = slopeIn body; steps = noSteps }
+decoded F75373s table body = record { chip = 2; table = table; slope = noSlope; steps = stepsIn body }
+decoded Nct80 table body = record { chip = 3; table = table; slope = noSlope; steps = noSteps }
 
 -- refusal 6: "temperatures of the plan are out of order"
 abbrev pub temperaturesOut : Plan → Bool

@@ -1,23 +1,22 @@
 // The values of a body, which holds a fan table's bytes in register order.
-use curves::Plan;
+use curves::SlopeValues;
+use curves::StepValues;
 ghost use mathlib.Core.Path.{_≡_};
-ghost use mathlib.Core.List.{[]};
 ghost use Prim.Native.Nat.{_+_, _*_, _≤_};
 ghost use lib.ListN.{getD};
 ghost use Rattle.cards.specs.Rows.{from};
 ghost use Rattle.curves.specs.Curves.{words};
-ghost use Rattle.cards.specs.declared.types.Chip.the-variants.{Nct80};
 ghost use Rattle.curves.specs.Planned.{bytesAt};
-ghost use Rattle.plans.specs.Plans.{decoded};
+ghost use Rattle.plans.specs.Plans.{slopeIn, stepsIn};
 
 // The byte at a place, and 0 behind the end.
-pub(crate) fn byte_at(body: &[u8], at: usize) -> u8
+fn byte_at(body: &[u8], at: usize) -> u8
     ensures { λ r. ⌜ r ≡ getD (now (body .entry)) at 0 ⌝ }
 {
     if at < body.len() { body[at] } else { 0 }
 }
 
-pub(crate) fn four_at(body: &[u8], at: usize) -> [u8; 4]
+fn four_at(body: &[u8], at: usize) -> [u8; 4]
     requires { ⌜ at ≤ 5 ⌝ }
     ensures { λ r. ⌜ r ≡ bytesAt (now (body .entry)) (from at 4) ⌝ }
 {
@@ -40,7 +39,7 @@ fn word_at(body: &[u8], at: usize) -> u16
 }
 
 // C1 to C5 stand behind B1 to B4.
-pub(crate) fn counts_at_4(body: &[u8]) -> [u16; 5]
+fn counts_at_4(body: &[u8]) -> [u16; 5]
     ensures { λ r. ⌜ r ≡ words (bytesAt (now (body .entry)) (from 4 10)) ⌝ }
 {
     [
@@ -52,17 +51,23 @@ pub(crate) fn counts_at_4(body: &[u8]) -> [u16; 5]
     ]
 }
 
-// Chip 3 has no fan table, so its plans have no values.
-pub(crate) fn no_curve(table: u8) -> Plan
-    ensures { λ r. ⌜ r ≡ decoded Nct80 table [] ⌝ }
+// T1 to T4, critical, FL1 to FL4.
+pub(crate) fn slope_in(body: &[u8]) -> SlopeValues
+    ensures { λ r. ⌜ r ≡ slopeIn (now (body .entry)) ⌝ }
 {
-    Plan {
-        chip: 3,
-        table,
-        temperatures: [0; 4],
-        critical: 0,
-        duties: [0; 4],
-        bounds: [0; 4],
-        counts: [0; 5],
+    SlopeValues {
+        temperatures: four_at(body, 0),
+        critical: byte_at(body, 4),
+        duties: four_at(body, 5),
+    }
+}
+
+// B1 to B4, C1 to C5.
+pub(crate) fn steps_in(body: &[u8]) -> StepValues
+    ensures { λ r. ⌜ r ≡ stepsIn (now (body .entry)) ⌝ }
+{
+    StepValues {
+        bounds: four_at(body, 0),
+        counts: counts_at_4(body),
     }
 }

@@ -4,6 +4,8 @@ mod bodies;
 use cards::Chip;
 use cards::Named;
 use cards::Place;
+use curves::NO_SLOPE;
+use curves::NO_STEPS;
 use curves::Plan;
 use refusal::Outcome;
 use refusal::Refusal;
@@ -71,22 +73,21 @@ pub fn plan_of_body(chip: Chip, table: u8, body: &[u8]) -> Plan
         Chip::Nct7802y => Plan {
             chip: 1,
             table,
-            temperatures: bodies::four_at(body, 0),
-            critical: bodies::byte_at(body, 4),
-            duties: bodies::four_at(body, 5),
-            bounds: [0; 4],
-            counts: [0; 5],
+            slope: bodies::slope_in(body),
+            steps: NO_STEPS,
         },
         Chip::F75373s => Plan {
             chip: 2,
             table,
-            temperatures: [0; 4],
-            critical: 0,
-            duties: [0; 4],
-            bounds: bodies::four_at(body, 0),
-            counts: bodies::counts_at_4(body),
+            slope: NO_SLOPE,
+            steps: bodies::steps_in(body),
         },
-        Chip::Nct80 => bodies::no_curve(table),
+        Chip::Nct80 => Plan {
+            chip: 3,
+            table,
+            slope: NO_SLOPE,
+            steps: NO_STEPS,
+        },
     }
 }
 

@@ -1,22 +1,26 @@
 -- A plan fills its chip's fan table with bytes, and no speed byte is faster than full: what the types of a plan and of an image say, as the theorem asks it.
 -- Assumes nothing.
-use Prim.Native.Nat.{ℕ, zero, suc, _<_, _^_, zero-le}
+use Prim.Native.Nat.{ℕ, _<_, _^_, zero-le}
 use native.Mathlib.Omega.{arith}
 use mathlib.Core.Bool.{So}
 use mathlib.Core.List.{List, [], _∷_, _++_, map}
-use Rattle.cards.specs.declared.types.Chip.{Chip}
-use Rattle.cards.specs.declared.types.Chip.the-variants.{Nct7802y, F75373s, Nct80}
+use lib.ListN.{getD}
+use mir.Syntax.{w8}
+use mir.Val as val
+use Rattle.cards.specs.declared.Chip.{Chip}
+use Rattle.cards.specs.declared.Chip.the-variants.{Nct7802y, F75373s, Nct80}
 use Rattle.cards.specs.Cards.{hasTable, tableOf}
 use Rattle.curves.specs.declared.Plan.{Plan}
 use Rattle.curves.specs.Curves.{halves}
 use Rattle.curves.specs.Orders.{Each, fulls, MoreDuty, LessCount}
 use Rattle.curves.specs.Planned.{planned}
+use Rattle.curves.specs.Values.{Within, Typed}
+use Rattle.curves.proofs.Owned.{all-at}
 use Rattle.scripts.specs.Scripts.{writes, fullOf, scriptOf}
 use Rattle.scripts.proofs.Safe.{Fits}
 use Rattle.scripts.proofs.Filled.{settings-fill, speeds-fill}
-use Rattle.plays.specs.NeverSlower.{Within, Typed}
 use Rattle.plays.proofs.Rules.{ruleOf}
-use Rattle.plays.proofs.Played.{bytesOf, AllWhole, whole-append, whole-writes, settings-free, speeds-free}
+use Rattle.plays.proofs.Played.{bytesOf, AllWhole, all-of, whole-append, whole-writes, settings-free, speeds-free}
 
 -- no byte is faster than FFh, and no count byte is faster than 00h
 duty-full : (l : List ℕ) → Within 8 l → Each MoreDuty (fulls 255 l) l
@@ -28,10 +32,11 @@ count-full [] = tt
 count-full (b ∷ l) = (zero-le, count-full l)
 
 -- each byte of an image is a byte
+pub image-within : (image : List ℕ) → ((k : ℕ) → val.Fits w8 (getD image k 0)) → Within 8 image
+image-within image known = all-of (λ b. b < 2 ^ 8) image (λ k h. known k .fits)
+
 byte-at : (image : List ℕ) (p : ℕ) → Within 8 image → bytesOf image p < 2 ^ 8
-byte-at [] p h = omega arith
-byte-at (b ∷ l) zero h = h .0
-byte-at (b ∷ l) (suc p) h = byte-at l p (h .1)
+byte-at image p h = all-at (λ b. b < 2 ^ 8) image h (omega arith) p
 
 bytes-at : (image ps : List ℕ) → Within 8 image → Within 8 (map (bytesOf image) ps)
 bytes-at image [] h = tt
@@ -57,13 +62,13 @@ none-faster F75373s l h = count-full l
 none-faster Nct80 l h = count-full l
 
 settings-within : (chip : Chip) (plan : Plan) → Typed plan → Within 8 (planned chip plan .settings)
-settings-within Nct7802y plan typed = within-append (plan .temperatures) (plan .critical ∷ []) (typed .temperatures) (typed .critical, tt)
+settings-within Nct7802y plan typed = within-append (plan .slope .temperatures) (plan .slope .critical ∷ []) (typed .temperatures) (typed .critical, tt)
 settings-within F75373s plan typed = typed .bounds
 settings-within Nct80 plan typed = tt
 
 speeds-within : (chip : Chip) (plan : Plan) → Typed plan → Within 8 (planned chip plan .speeds)
 speeds-within Nct7802y plan typed = typed .duties
-speeds-within F75373s plan typed = within-halves (plan .counts) (typed .counts)
+speeds-within F75373s plan typed = within-halves (plan .steps .counts) (typed .counts)
 speeds-within Nct80 plan typed = tt
 
 full-byte : (chip : Chip) → fullOf chip < 2 ^ 8

@@ -5,5 +5,4 @@ pub mod Turns
 pub mod Answers
 pub mod NeverRefused
 pub mod NeverSlower
-pub mod Typed
 pub mod Unique

@@ -16,12 +16,13 @@ use Rattle.cards.specs.Cards.{rowOf, hasTable, tableOf}
 use Rattle.cards.proofs.Tables.{table-mask, table-within, table-distinct}
 use Rattle.images.specs.Bytes.{written}
 use Rattle.images.proofs.Laws.{storedAt-length, storedAt-other, storedAt-full}
+use Rattle.curves.specs.Orders.{All}
+use Rattle.curves.specs.Values.{Within}
 use Rattle.scripts.specs.Scripts.{Pair, writes}
-use Rattle.scripts.specs.Rules.{All, Outside}
+use Rattle.scripts.specs.Rules.{Outside}
 use Rattle.scripts.proofs.Memory.{Memory, put, puts, put-there, put-elsewhere, Distinct, Disjoint}
 use Rattle.scripts.proofs.Safe.{Apart}
 use Rattle.plays.specs.Plays.{played}
-use Rattle.plays.specs.NeverSlower.{Within}
 
 abbrev pub bytesOf : List ℕ → Memory
 bytesOf image position = getD image position 0

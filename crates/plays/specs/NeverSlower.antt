@@ -1,7 +1,7 @@
 -- Demand 3, in the customer's words, of the very answers that callers get: what `plays::play` leaves in a lent image, and what
 -- `plans::asked_of_image` and `plans::asked_of_plan` answer.
 -- Assumes nothing.
-use Prim.Native.Nat.{ℕ, _≤_, _<_, _^_, min, max}
+use Prim.Native.Nat.{ℕ, _≤_, min, max}
 use mathlib.Core.Path.{_≡_}
 use mathlib.Core.List.{List}
 use lib.ListN.{length, getD}
@@ -17,9 +17,8 @@ use Rattle.plans.specs.declared.Asked.{Asked}
 use Rattle.plans.specs.declared.Asked.the-variants.{Speed, Refused}
 use Rattle.curves.specs.Orders.{MoreDuty, LessCount}
 use Rattle.plans.specs.Plans.{planChecks, AsksImage, AsksPlan}
-use Rattle.records.specs.Records.{Sized}
 use Rattle.scripts.specs.Scripts.{scriptFor}
-use Rattle.scripts.specs.Rules.{All, Outside}
+use Rattle.scripts.specs.Rules.{Outside}
 
 -- "More duty is faster; a smaller count is faster": a is at least as fast as b
 abbrev pub AsFast : Chip → ℕ → ℕ → Type 0
@@ -39,19 +38,6 @@ NeverSlower chip (Speed stop) (Speed old) (Speed plan) = AsFast chip stop (slowe
 NeverSlower chip (Speed stop) (Speed old) (Refused r) = ⊥
 NeverSlower chip (Speed stop) (Refused r) plan = ⊥
 NeverSlower chip (Refused r) old plan = ⊥
-
--- each entry fits a number of bits
-abbrev pub Within : ℕ → List ℕ → Type 0
-Within bits xs = All (λ x. x < 2 ^ bits) xs
-
--- what its type says of every plan that code holds: the arrays' lengths and the numbers' ranges
-pub record Typed (plan : Plan) : Type 0 where
-  pub sized : Sized plan
-  pub temperatures : Within 8 (plan .temperatures)
-  pub critical : plan .critical < 2 ^ 8
-  pub duties : Within 8 (plan .duties)
-  pub bounds : Within 8 (plan .bounds)
-  pub counts : Within 16 (plan .counts)
 
 -- Demand 3, of a stop: `old` is the image before, `new` the image at the stop, `count` how many writes were asked for.
 pub record Demand3 (chip : Chip) (plan : Plan) (old : List ℕ) (count : ℕ) (new : List ℕ) : Type 0 where

@@ -1,5 +1,7 @@
 // Prints plan records read, `read BYTES used N PLAN`, and written to a buffer that was filled with 5Ah, `write PLAN room N used N out BYTES`.
 use curves::Plan;
+use curves::SlopeValues;
+use curves::StepValues;
 use refusal::Count;
 
 fn used(answer: Count) {
@@ -129,11 +131,15 @@ fn both_chips(chip: u8) -> Plan {
     Plan {
         chip,
         table: 2,
-        temperatures: [1, 2, 3, 4],
-        critical: 4,
-        duties: [5, 6, 7, 7],
-        bounds: [9, 8, 7, 6],
-        counts: [1, 2, 3, 3, 0xFFFF],
+        slope: SlopeValues {
+            temperatures: [1, 2, 3, 4],
+            critical: 4,
+            duties: [5, 6, 7, 7],
+        },
+        steps: StepValues {
+            bounds: [9, 8, 7, 6],
+            counts: [1, 2, 3, 3, 0xFFFF],
+        },
     }
 }
 

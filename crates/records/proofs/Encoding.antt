@@ -15,13 +15,16 @@ use Rattle.cards.specs.Rows.{Table, from, positions}
 use Rattle.cards.specs.Cards.{sheetOf, chipOf, whenKnown, hasTable, tableOf, tableFrom, baseOf}
 use Rattle.cards.proofs.Numbers.{chip-number}
 use Rattle.cards.proofs.Tables.{table-at-base}
+use Rattle.curves.specs.declared.SlopeValues.{SlopeValues}
+use Rattle.curves.specs.declared.StepValues.{StepValues}
 use Rattle.curves.specs.declared.Plan.{Plan}
 use Rattle.curves.specs.Curves.{halves, words}
 use Rattle.curves.specs.Planned.{planned, bytesAt}
-use Rattle.plans.specs.Plans.{zeros, decoded, planChecks}
+use Rattle.plans.specs.Plans.{slopeIn, stepsIn, decoded, planChecks}
 use Rattle.curves.proofs.StepLaws.{words-halves, halves-words}
 use Rattle.curves.proofs.Registers.{in-a-row, spelled}
-use Rattle.records.specs.Records.{body, bodyLength, recordLength, recordOf, encoded, ownOf, Sized}
+use Rattle.curves.specs.Values.{noSlope, noSteps, Sized}
+use Rattle.records.specs.Records.{body, bodyLength, recordLength, recordOf, encoded, ownOf}
 
 -- "9 bytes for chip 1, 14 for chip 2": as many as each of the chip's tables has registers
 at-base : (chip : Chip) (base : ℕ) → length (positions (tableFrom chip base)) ≡ bodyLength chip
@@ -44,13 +47,13 @@ pub body-of-plan : (chip : Chip) (plan : Plan) → Sized plan → length (body (
 body-of-plan Nct7802y plan S =
     omega (
       arith,
-      length-append (plan .temperatures ++ (plan .critical ∷ [])) (plan .duties),
-      length-append (plan .temperatures) (plan .critical ∷ []),
+      length-append (plan .slope .temperatures ++ (plan .slope .critical ∷ [])) (plan .slope .duties),
+      length-append (plan .slope .temperatures) (plan .slope .critical ∷ []),
       S .temperatures,
       S .duties,
     )
 body-of-plan F75373s plan S =
-    omega (arith, length-append (plan .bounds) (halves (plan .counts)), halves-length (plan .counts), S .bounds, S .counts)
+    omega (arith, length-append (plan .steps .bounds) (halves (plan .steps .counts)), halves-length (plan .steps .counts), S .bounds, S .counts)
 body-of-plan Nct80 plan S = refl
 
 -- "the bytes used, 13 or 18": as many as a plan's record has
@@ -77,26 +80,37 @@ decoded-sized Nct7802y table rest = record { temperatures = refl; duties = refl;
 decoded-sized F75373s table rest = record { temperatures = refl; duties = refl; bounds = refl; counts = refl }
 decoded-sized Nct80 table rest = record { temperatures = refl; duties = refl; bounds = refl; counts = refl }
 
--- a plan's body is decoded to the plan, with the other chip's values zero and whatever stands behind the body
+-- values that are laid out in register order come back, whatever stands behind them
+slope-back : (values : SlopeValues) (rest : List ℕ) → length (values .temperatures) ≡ 4 → length (values .duties) ≡ 4
+    → slopeIn (((values .temperatures ++ (values .critical ∷ [])) ++ values .duties) ++ rest) ≡ values
+slope-back values rest t d =
+    let undone : List ℕ → List ℕ → SlopeValues = λ ts ds. slopeIn (((ts ++ (values .critical ∷ [])) ++ ds) ++ rest) in
+    let of : List ℕ → List ℕ → SlopeValues = λ ts ds. record { temperatures = ts; critical = values .critical; duties = ds } in
+    let ts = spelled (values .temperatures) 4 t in
+    let ds = spelled (values .duties) 4 d in
+    sym (ap₂ undone ts ds) ∙ ap₂ of ts ds
+
+steps-back : (values : StepValues) (rest : List ℕ) → length (values .bounds) ≡ 4 → length (values .counts) ≡ 5
+    → stepsIn ((values .bounds ++ halves (values .counts)) ++ rest) ≡ values
+steps-back values rest b c =
+    let undone : List ℕ → List ℕ → StepValues = λ bs hs. stepsIn ((bs ++ hs) ++ rest) in
+    let of : List ℕ → List ℕ → StepValues = λ bs cs. record { bounds = bs; counts = cs } in
+    let bs = spelled (values .bounds) 4 b in
+    let hs = spelled (halves (values .counts)) 10 (omega (arith, halves-length (values .counts), c)) in
+    sym (ap₂ undone bs hs) ∙ ap₂ (λ (l h : List ℕ). of l (words h)) bs hs ∙ ap (of (values .bounds)) (words-halves (values .counts))
+
+-- so a plan's body is decoded to the plan, with the other chip's values zero
 pub decode-encode : (chip : Chip) (plan : Plan) (rest : List ℕ) → Sized plan → chipOf (plan .chip) ≡ Known chip
     → decoded chip (plan .table) (body (planned chip plan) ++ rest) ≡ ownOf chip plan
 unfolding sheetOf
 decode-encode Nct7802y plan rest S e =
-    let undone : List ℕ → List ℕ → Plan = λ ts ds. decoded Nct7802y (plan .table) (((ts ++ (plan .critical ∷ [])) ++ ds) ++ rest) in
-    let of : ℕ → List ℕ → List ℕ → Plan = λ n ts ds. record { chip = n; table = plan .table; temperatures = ts; critical = plan .critical; duties = ds; bounds = zeros 4; counts = zeros 5 } in
-    let ts = spelled (plan .temperatures) 4 (S .temperatures) in
-    let ds = spelled (plan .duties) 4 (S .duties) in
-    sym (ap₂ undone ts ds) ∙ ap₂ (of 1) ts ds ∙ ap (λ (n : ℕ). of n (plan .temperatures) (plan .duties)) (sym (chip-number (plan .chip) Nct7802y e))
+    let values = slope-back (plan .slope) rest (S .temperatures) (S .duties) in
+    λ i. record { chip = sym (chip-number (plan .chip) Nct7802y e) i; table = plan .table; slope = values i; steps = noSteps }
 decode-encode F75373s plan rest S e =
-    let undone : List ℕ → List ℕ → Plan = λ bs hs. decoded F75373s (plan .table) ((bs ++ hs) ++ rest) in
-    let of : ℕ → List ℕ → List ℕ → Plan = λ n bs cs. record { chip = n; table = plan .table; temperatures = zeros 4; critical = 0; duties = zeros 4; bounds = bs; counts = cs } in
-    let bs = spelled (plan .bounds) 4 (S .bounds) in
-    let hs = spelled (halves (plan .counts)) 10 (omega (arith, halves-length (plan .counts), S .counts)) in
-    sym (ap₂ undone bs hs)
-    ∙ ap₂ (λ (b h : List ℕ). of 2 b (words h)) bs hs
-    ∙ ap (of 2 (plan .bounds)) (words-halves (plan .counts))
-    ∙ ap (λ (n : ℕ). of n (plan .bounds) (plan .counts)) (sym (chip-number (plan .chip) F75373s e))
-decode-encode Nct80 plan rest S e = λ i. record { chip = sym (chip-number (plan .chip) Nct80 e) i; table = plan .table; temperatures = zeros 4; critical = 0; duties = zeros 4; bounds = zeros 4; counts = zeros 5 }
+    let values = steps-back (plan .steps) rest (S .bounds) (S .counts) in
+    λ i. record { chip = sym (chip-number (plan .chip) F75373s e) i; table = plan .table; slope = noSlope; steps = values i }
+decode-encode Nct80 plan rest S e =
+    λ i. record { chip = sym (chip-number (plan .chip) Nct80 e) i; table = plan .table; slope = noSlope; steps = noSteps }
 
 -- what comes back of a plan is judged as the plan is
 pub own-judged : (chip : Chip) (plan : Plan) → chipOf (plan .chip) ≡ Known chip → first (planChecks (ownOf chip plan)) ≡ first (planChecks plan)

@@ -1,4 +1,3 @@
-pub mod Owned
 pub mod Places
 pub mod Chips
 pub mod Answers

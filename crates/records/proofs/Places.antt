@@ -11,7 +11,8 @@ use Rattle.cards.specs.declared.types.Chip.the-variants.{Nct7802y, F75373s}
 use Rattle.curves.specs.declared.Plan.{Plan}
 use Rattle.curves.specs.Curves.{halves}
 use Rattle.curves.specs.Planned.{planned}
-use Rattle.records.specs.Records.{header, body, recordOf, Sized}
+use Rattle.curves.specs.Values.{Sized}
+use Rattle.records.specs.Records.{header, body, recordOf}
 
 -- a place of two lists in a row is in the first, or behind it
 in-front : (xs ys : List ℕ) (n k : ℕ) → length xs ≡ n → k < n → getD xs k 0 ≡ getD (xs ++ ys) k 0
@@ -40,40 +41,40 @@ low-half (c ∷ cs) (suc k) =
     low-half cs k ∙ ap (λ (j : ℕ). getD (halves (c ∷ cs)) j 0) two
 
 module _ (plan : Plan) (sized : Sized plan) (k : ℕ) where
-  five : length (plan .temperatures ++ (plan .critical ∷ [])) ≡ 5
-  five = omega (arith, length-append (plan .temperatures) (plan .critical ∷ []), sized .temperatures)
+  five : length (plan .slope .temperatures ++ (plan .slope .critical ∷ [])) ≡ 5
+  five = omega (arith, length-append (plan .slope .temperatures) (plan .slope .critical ∷ []), sized .temperatures)
 
-  pub temperature-at : k < 4 → getD (plan .temperatures) k 0 ≡ getD (body (planned Nct7802y plan)) k 0
+  pub temperature-at : k < 4 → getD (plan .slope .temperatures) k 0 ≡ getD (body (planned Nct7802y plan)) k 0
   temperature-at h =
-      in-front (plan .temperatures) (plan .critical ∷ []) 4 k (sized .temperatures) h
-      ∙ in-front (plan .temperatures ++ (plan .critical ∷ [])) (plan .duties) 5 k five (omega arith)
+      in-front (plan .slope .temperatures) (plan .slope .critical ∷ []) 4 k (sized .temperatures) h
+      ∙ in-front (plan .slope .temperatures ++ (plan .slope .critical ∷ [])) (plan .slope .duties) 5 k five (omega arith)
 
-  pub critical-at : k ≡ 4 → plan .critical ≡ getD (body (planned Nct7802y plan)) k 0
+  pub critical-at : k ≡ 4 → plan .slope .critical ≡ getD (body (planned Nct7802y plan)) k 0
   critical-at h =
       let here : k - 4 ≡ 0 = omega arith in
-      ap (λ (j : ℕ). getD (plan .critical ∷ []) j 0) (sym here)
-      ∙ behind (plan .temperatures) (plan .critical ∷ []) 4 k (sized .temperatures) (omega arith)
-      ∙ in-front (plan .temperatures ++ (plan .critical ∷ [])) (plan .duties) 5 k five (omega arith)
+      ap (λ (j : ℕ). getD (plan .slope .critical ∷ []) j 0) (sym here)
+      ∙ behind (plan .slope .temperatures) (plan .slope .critical ∷ []) 4 k (sized .temperatures) (omega arith)
+      ∙ in-front (plan .slope .temperatures ++ (plan .slope .critical ∷ [])) (plan .slope .duties) 5 k five (omega arith)
 
-  pub duty-at : 5 ≤ k → getD (plan .duties) (k - 5) 0 ≡ getD (body (planned Nct7802y plan)) k 0
-  duty-at h = behind (plan .temperatures ++ (plan .critical ∷ [])) (plan .duties) 5 k five h
+  pub duty-at : 5 ≤ k → getD (plan .slope .duties) (k - 5) 0 ≡ getD (body (planned Nct7802y plan)) k 0
+  duty-at h = behind (plan .slope .temperatures ++ (plan .slope .critical ∷ [])) (plan .slope .duties) 5 k five h
 
-  pub bound-at : k < 4 → getD (plan .bounds) k 0 ≡ getD (body (planned F75373s plan)) k 0
-  bound-at h = in-front (plan .bounds) (halves (plan .counts)) 4 k (sized .bounds) h
+  pub bound-at : k < 4 → getD (plan .steps .bounds) k 0 ≡ getD (body (planned F75373s plan)) k 0
+  bound-at h = in-front (plan .steps .bounds) (halves (plan .steps .counts)) 4 k (sized .bounds) h
 
-  pub high-at : 4 ≤ k → k % 2 ≡ 0 → getD (plan .counts) ((k - 4) / 2) 0 / 256 ≡ getD (body (planned F75373s plan)) k 0
+  pub high-at : 4 ≤ k → k % 2 ≡ 0 → getD (plan .steps .counts) ((k - 4) / 2) 0 / 256 ≡ getD (body (planned F75373s plan)) k 0
   high-at h even =
       let at : (k - 4) / 2 + (k - 4) / 2 ≡ k - 4 = omega arith in
-      high-half (plan .counts) ((k - 4) / 2)
-      ∙ ap (λ (j : ℕ). getD (halves (plan .counts)) j 0) at
-      ∙ behind (plan .bounds) (halves (plan .counts)) 4 k (sized .bounds) h
+      high-half (plan .steps .counts) ((k - 4) / 2)
+      ∙ ap (λ (j : ℕ). getD (halves (plan .steps .counts)) j 0) at
+      ∙ behind (plan .steps .bounds) (halves (plan .steps .counts)) 4 k (sized .bounds) h
 
-  pub low-at : 4 ≤ k → (k % 2 ≡ 0 → ⊥) → getD (plan .counts) ((k - 4) / 2) 0 % 256 ≡ getD (body (planned F75373s plan)) k 0
+  pub low-at : 4 ≤ k → (k % 2 ≡ 0 → ⊥) → getD (plan .steps .counts) ((k - 4) / 2) 0 % 256 ≡ getD (body (planned F75373s plan)) k 0
   low-at h odd =
       let at : suc ((k - 4) / 2 + (k - 4) / 2) ≡ k - 4 = omega arith in
-      low-half (plan .counts) ((k - 4) / 2)
-      ∙ ap (λ (j : ℕ). getD (halves (plan .counts)) j 0) at
-      ∙ behind (plan .bounds) (halves (plan .counts)) 4 k (sized .bounds) h
+      low-half (plan .steps .counts) ((k - 4) / 2)
+      ∙ ap (λ (j : ℕ). getD (halves (plan .steps .counts)) j 0) at
+      ∙ behind (plan .steps .bounds) (halves (plan .steps .counts)) 4 k (sized .bounds) h
 
 module _ (chip : Chip) (plan : Plan) (at : ℕ) where
   pub header-at : at < 4 → getD (header (plan .chip) (plan .table)) at 0 ≡ getD (recordOf chip plan) at 0

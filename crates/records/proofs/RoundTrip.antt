@@ -24,7 +24,8 @@ use Rattle.curves.specs.Planned.{planned}
 use Rattle.plans.specs.Plans.{decoded, orderChecks, planChecks}
 use Rattle.plans.proofs.Laws.{accepted, accepted-known}
 use Rattle.records.specs.declared.Found.{Found}
-use Rattle.records.specs.Records.{body, bodyLength, recordLength, recordOf, encoded, chipIn, tableIn, bodyIn, noPlan, planIn, bodyChecks, bodyPlanChecks, recordChecks, roomChecks, writeChecks, ownOf, own, Sized, Reads, Writes}
+use Rattle.curves.specs.Values.{Sized}
+use Rattle.records.specs.Records.{body, bodyLength, recordLength, recordOf, encoded, chipIn, tableIn, bodyIn, noPlan, planIn, bodyChecks, bodyPlanChecks, recordChecks, roomChecks, writeChecks, ownOf, own, Reads, Writes}
 use Rattle.records.proofs.Chips.{decoded-chip, decoded-table}
 use Rattle.records.proofs.Answers.{told-of, whole-body, Complete, complete-judged}
 use Rattle.records.proofs.Encoding.{body-of-plan, record-of-plan, decode-encode, own-judged, encode-decode}

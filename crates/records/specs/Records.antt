@@ -15,8 +15,9 @@ use Rattle.cards.specs.declared.types.Chip.{Chip}
 use Rattle.cards.specs.declared.types.Chip.the-variants.{Nct7802y, F75373s, Nct80}
 use Rattle.cards.specs.Cards.{chipOf, whenKnown, unknown, noTable}
 use Rattle.curves.specs.declared.Plan.{Plan}
+use Rattle.curves.specs.Values.{noSlope, noSteps}
 use Rattle.curves.specs.Planned.{Curve, planned}
-use Rattle.plans.specs.Plans.{zeros, decoded, orderChecks, planChecks}
+use Rattle.plans.specs.Plans.{decoded, orderChecks, planChecks}
 use Rattle.records.specs.declared.Found.{Found}
 
 -- "a two-byte mark 43h 50h before each plan, chip, table"
@@ -56,16 +57,7 @@ bodyIn bytes = drop 4 bytes
 
 -- "zero in every other part of the answer"
 abbrev pub noPlan : Plan
-noPlan =
-    record {
-      chip = 0;
-      table = 0;
-      temperatures = zeros 4;
-      critical = 0;
-      duties = zeros 4;
-      bounds = zeros 4;
-      counts = zeros 5;
-    }
+noPlan = record { chip = 0; table = 0; slope = noSlope; steps = noSteps }
 
 -- the plan of a chip, a table and the bytes of a body; bytes behind the body do not matter
 abbrev pub planOf : ℕ → ℕ → List ℕ → Plan
@@ -130,46 +122,12 @@ Writes plan old r new = WritesBy (writeChecks plan old) plan old r new
 
 -- "those of the other chip are zero in what is read": what comes back of a plan
 abbrev pub ownOf : Chip → Plan → Plan
-ownOf Nct7802y plan =
-    record {
-      chip = plan .chip;
-      table = plan .table;
-      temperatures = plan .temperatures;
-      critical = plan .critical;
-      duties = plan .duties;
-      bounds = zeros 4;
-      counts = zeros 5;
-    }
-ownOf F75373s plan =
-    record {
-      chip = plan .chip;
-      table = plan .table;
-      temperatures = zeros 4;
-      critical = 0;
-      duties = zeros 4;
-      bounds = plan .bounds;
-      counts = plan .counts;
-    }
-ownOf Nct80 plan =
-    record {
-      chip = plan .chip;
-      table = plan .table;
-      temperatures = zeros 4;
-      critical = 0;
-      duties = zeros 4;
-      bounds = zeros 4;
-      counts = zeros 5;
-    }
+ownOf Nct7802y plan = record { chip = plan .chip; table = plan .table; slope = plan .slope; steps = noSteps }
+ownOf F75373s plan = record { chip = plan .chip; table = plan .table; slope = noSlope; steps = plan .steps }
+ownOf Nct80 plan = record { chip = plan .chip; table = plan .table; slope = noSlope; steps = noSteps }
 
 abbrev pub own : Plan → Plan
 own plan = whenKnown (chipOf (plan .chip)) (λ chip. ownOf chip plan) noPlan
-
--- a plan's arrays are as long as its type says
-pub record Sized (plan : Plan) : Type 0 where
-  pub temperatures : length (plan .temperatures) ≡ 4
-  pub duties : length (plan .duties) ≡ 4
-  pub bounds : length (plan .bounds) ≡ 4
-  pub counts : length (plan .counts) ≡ 5
 
 -- The contracts of the parts.
 -- a refused record

@@ -13,14 +13,15 @@ fn nct7802y(plan: Plan, k: usize) -> u8
     requires { ⌜ k < 9 ⌝ }
     ensures { λ r. ⌜ r ≡ getD (body (planned Nct7802y plan)) k 0 ⌝ }
 {
+    let values = plan.slope;
     if k == 4 {
-        return plan.critical;
+        return values.critical;
     }
     if k < 4 {
-        let temperatures = plan.temperatures;
+        let temperatures = values.temperatures;
         return temperatures[k];
     }
-    let duties = plan.duties;
+    let duties = values.duties;
     duties[k - 5]
 }
 
@@ -29,11 +30,12 @@ fn f75373s(plan: Plan, k: usize) -> u8
     requires { ⌜ k < 14 ⌝ }
     ensures { λ r. ⌜ r ≡ getD (body (planned F75373s plan)) k 0 ⌝ }
 {
+    let values = plan.steps;
     if k < 4 {
-        let bounds = plan.bounds;
+        let bounds = values.bounds;
         return bounds[k];
     }
-    let counts = plan.counts;
+    let counts = values.counts;
     let count = counts[(k - 4) / 2];
     if k % 2 == 0 {
         return (count / 256) as u8;

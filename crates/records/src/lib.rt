@@ -4,6 +4,8 @@ mod layout;
 use cards::Chip;
 use cards::Named;
 use cards::Place;
+use curves::NO_SLOPE;
+use curves::NO_STEPS;
 use curves::Plan;
 use refusal::Count;
 use refusal::Outcome;
@@ -25,11 +27,8 @@ fn refused(refusal: Refusal) -> Found
         plan: Plan {
             chip: 0,
             table: 0,
-            temperatures: [0; 4],
-            critical: 0,
-            duties: [0; 4],
-            bounds: [0; 4],
-            counts: [0; 5],
+            slope: NO_SLOPE,
+            steps: NO_STEPS,
         },
     }
 }

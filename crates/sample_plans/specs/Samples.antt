@@ -4,33 +4,17 @@ use Prim.Native.Nat.{ℕ}
 use mathlib.Core.List.{List, [], _∷_}
 use lib.ListN.{getD}
 use Rattle.curves.specs.declared.Plan.{Plan}
-use Rattle.plans.specs.Plans.{zeros}
+use Rattle.curves.specs.Values.{noSlope, noSteps}
 
 -- with chip 1's values
 abbrev pub sloped : ℕ → ℕ → List ℕ → ℕ → List ℕ → Plan
 sloped chip table temperatures critical duties =
-    record {
-      chip = chip;
-      table = table;
-      temperatures = temperatures;
-      critical = critical;
-      duties = duties;
-      bounds = zeros 4;
-      counts = zeros 5;
-    }
+    record { chip = chip; table = table; slope = record { temperatures = temperatures; critical = critical; duties = duties }; steps = noSteps }
 
 -- of chip 2
 abbrev pub stepped : ℕ → List ℕ → List ℕ → Plan
 stepped table bounds counts =
-    record {
-      chip = 2;
-      table = table;
-      temperatures = zeros 4;
-      critical = 0;
-      duties = zeros 4;
-      bounds = bounds;
-      counts = counts;
-    }
+    record { chip = 2; table = table; slope = noSlope; steps = record { bounds = bounds; counts = counts } }
 
 -- the values of "The plan above", for any chip number and table
 abbrev pub paperFor : ℕ → ℕ → Plan

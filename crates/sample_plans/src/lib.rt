@@ -1,5 +1,9 @@
 // Plans that lines are about, and how a line shows a plan, a temperature and a speed. Only the programs that print figures use it.
+use curves::NO_SLOPE;
+use curves::NO_STEPS;
 use curves::Plan;
+use curves::SlopeValues;
+use curves::StepValues;
 use plans::Asked;
 ghost use mathlib.Core.Path.{_≡_};
 ghost use Rattle.sample_plans.specs.Samples.{sloped, stepped as Samples·stepped, paperFor, allDifferent, refusedAt};
@@ -11,11 +15,12 @@ pub fn slope(chip: u8, table: u8, temperatures: [u8; 4], critical: u8, duties: [
     Plan {
         chip,
         table,
-        temperatures,
-        critical,
-        duties,
-        bounds: [0; 4],
-        counts: [0; 5],
+        slope: SlopeValues {
+            temperatures,
+            critical,
+            duties,
+        },
+        steps: NO_STEPS,
     }
 }
 
@@ -26,11 +31,8 @@ pub fn steps(table: u8, bounds: [u8; 4], counts: [u16; 5]) -> Plan
     Plan {
         chip: 2,
         table,
-        temperatures: [0; 4],
-        critical: 0,
-        duties: [0; 4],
-        bounds,
-        counts,
+        slope: NO_SLOPE,
+        steps: StepValues { bounds, counts },
     }
 }
 
@@ -87,15 +89,17 @@ fn count(count: u16) {
 // ` chip C table T`, then in hexadecimal T1 to T4, critical, FL1 to FL4, B1 to B4, C1 to C5.
 pub fn show(plan: Plan) {
     head(plan);
-    let temperatures = plan.temperatures;
+    let slope = plan.slope;
+    let temperatures = slope.temperatures;
     printing::bytes(&temperatures);
     printing::space();
-    printing::byte(plan.critical);
-    let duties = plan.duties;
+    printing::byte(slope.critical);
+    let duties = slope.duties;
     printing::bytes(&duties);
-    let bounds = plan.bounds;
+    let steps = plan.steps;
+    let bounds = steps.bounds;
     printing::bytes(&bounds);
-    let counts = plan.counts;
+    let counts = steps.counts;
     count(counts[0]);
     count(counts[1]);
     count(counts[2]);

@@ -13,7 +13,7 @@ use Rattle.cards.specs.Cards.{sheetOf, hasTable, tableOf}
 use Rattle.cards.proofs.Tables.{table-number, table-at-base}
 use Rattle.curves.specs.declared.Plan.{Plan}
 use Rattle.curves.specs.Planned.{planned}
-use Rattle.records.specs.Records.{Sized}
+use Rattle.curves.specs.Values.{Sized}
 use Rattle.records.proofs.Encoding.{halves-length}
 
 pub settings-fill : (chip : Chip) (plan : Plan) → Sized plan → So (hasTable chip (plan .table))
@@ -21,7 +21,7 @@ pub settings-fill : (chip : Chip) (plan : Plan) → Sized plan → So (hasTable 
 unfolding sheetOf
 settings-fill Nct7802y plan long has =
     ap (λ (t : Table). length (t .settings)) (table-at-base Nct7802y (plan .table) has)
-    ∙ sym (length-append (plan .temperatures) (plan .critical ∷ []) ∙ ap (λ (n : ℕ). n + 1) (long .temperatures))
+    ∙ sym (length-append (plan .slope .temperatures) (plan .slope .critical ∷ []) ∙ ap (λ (n : ℕ). n + 1) (long .temperatures))
 settings-fill F75373s plan long has =
     ap (λ (t : Table). length (t .settings)) (table-at-base F75373s (plan .table) has) ∙ sym (long .bounds)
 settings-fill Nct80 plan long has = absurd (omega (arith, table-number Nct80 (plan .table) has .0, table-number Nct80 (plan .table) has .1))
@@ -33,5 +33,5 @@ speeds-fill Nct7802y plan long has =
     ap (λ (t : Table). length (t .speeds)) (table-at-base Nct7802y (plan .table) has) ∙ sym (long .duties)
 speeds-fill F75373s plan long has =
     ap (λ (t : Table). length (t .speeds)) (table-at-base F75373s (plan .table) has)
-    ∙ sym (halves-length (plan .counts) ∙ ap (λ (n : ℕ). n + n) (long .counts))
+    ∙ sym (halves-length (plan .steps .counts) ∙ ap (λ (n : ℕ). n + n) (long .counts))
 speeds-fill Nct80 plan long has = absurd (omega (arith, table-number Nct80 (plan .table) has .0, table-number Nct80 (plan .table) has .1))

@@ -17,7 +17,7 @@ use Rattle.cards.specs.declared.types.Named.the-variants.{Known, Unknown}
 use Rattle.cards.specs.Cards.{chipOf, hasTable}
 use Rattle.curves.specs.declared.Plan.{Plan}
 use Rattle.plans.specs.Plans.{planChecks}
-use Rattle.records.specs.Records.{Sized}
+use Rattle.curves.specs.Values.{Sized}
 use Rattle.scripts.specs.Scripts.{scriptOf, scriptLength, scriptFor, scriptChecks, Scripts}
 use Rattle.scripts.proofs.Prepared.{describes-plan}
 

@@ -1,15 +1,11 @@
 -- `curves::speed_of` meets its contract: each arm asks by the rule of its chip.
 -- Assumes nothing.
+use Rattle.curves.proofs.Owned.{plan-typed}
 use Rattle.curves.proofs.Registers.{planned-duty, planned-count}
-use lib.ListN.{length, length-map}
-use mathlib.Core.Path.{_≡_, sym, _∙_}
+use mathlib.Core.Path.{_∙_}
 use borrow.Author.Needs.{needs}
 use Rattle.curves.proofs.speed_of.Statement.{statement}
 use Rattle.curves.proofs.speed_of.Tie as tie
-
--- an array that a plan holds has its length
-temperatures-four : (c : tie.Start) → length (c .args .plan .temperatures) ≡ 4
-temperatures-four c = sym (length-map (c .args .plan .temperatures) (λ v. v)) ∙ c .good .1 .0 .1 .1 .1 .1 .0 .1 .0 .1
 
 enum-told : tie.Need-enum-told
 enum-told c = search needs
@@ -31,14 +27,15 @@ enum-told-3 c = search needs
 
 returns : tie.Need-returns
 returns c =
-    let s = c .before .before .before .before .before in
-    rw (c .before .before .before .enum-told .given .1)
-    (record { answer = c .asked-duty .ensures ∙ planned-duty (s .args .plan) (s .args .t) (temperatures-four s) })
+    let s = c .before .before .before .before .before .before in
+    let plan = s .args .plan in
+    rw (c .before .before .before .before .enum-told .given .1)
+    (record { answer = c .asked-duty .ensures ∙ planned-duty plan (s .args .t) (plan-typed plan _ (s .good .1 .0) .sized .temperatures) })
 
 returns-2 : tie.Need-returns-2
 returns-2 c =
-    let s = c .before .before .before .before .before in
-    rw (c .before .before .before .enum-told2 .given .1)
+    let s = c .before .before .before .before .before .before in
+    rw (c .before .before .before .before .enum-told2 .given .1)
     (record { answer = c .asked-count .ensures ∙ planned-count (s .args .plan) (s .args .t) })
 
 returns-3 : tie.Need-returns-3

@@ -20,7 +20,7 @@ enum-told-3 : tie.Need-enum-told-3
 enum-told-3 c = search needs
 
 returns : tie.Need-returns
-returns c = rw (c .before .before .enum-told .given .1) (record { answer = c .rising-to-critical .ensures })
+returns c = rw (c .before .before .before .enum-told .given .1) (record { answer = c .rising-to-critical .ensures })
 
 returns-2 : tie.Need-returns-2
 returns-2 c = search needs

@@ -1,4 +1,4 @@
--- `plans::plan_of_body` meets its contract: each arm takes the values of its chip from their places.
+-- `plans::plan_of_body` meets its contract: each arm takes the values of its chip.
 -- Assumes nothing.
 use borrow.Author.Needs.{needs}
 use Rattle.plans.proofs.plan_of_body.Statement.{statement}
@@ -7,52 +7,38 @@ use Rattle.plans.proofs.plan_of_body.Tie as tie
 enum-told : tie.Need-enum-told
 enum-told c = search needs
 
-four-at-requires : tie.Need-four-at-requires
-four-at-requires c κs = search needs
+slope-in-requires : tie.Need-slope-in-requires
+slope-in-requires c κs = search needs
 
-byte-at-requires : tie.Need-byte-at-requires
-byte-at-requires c κs = search needs
-
-four-at-requires-2 : tie.Need-four-at-requires-2
-four-at-requires-2 c κs = search needs
-
+-- /tmp/h/nest/main/target/rlib/curves.rlib/interface/lang/src/lib.rt:7:65
 enum-told-2 : tie.Need-enum-told-2
 enum-told-2 c = search needs
 
-four-at-requires-3 : tie.Need-four-at-requires-3
-four-at-requires-3 c κs = search needs
+steps-in-requires : tie.Need-steps-in-requires
+steps-in-requires c κs = search needs
 
-counts-at-4-requires : tie.Need-counts-at-4-requires
-counts-at-4-requires c κs = search needs
-
+-- /tmp/h/nest/main/target/rlib/curves.rlib/interface/lang/src/lib.rt:7:65
 enum-told-3 : tie.Need-enum-told-3
 enum-told-3 c = search needs
 
-no-curve-requires : tie.Need-no-curve-requires
-no-curve-requires c κs = search needs
-
 returns : tie.Need-returns
-returns c = record { answer = rw (c .before .before .before .enum-told .given .1, c .before .before .four-at .ensures, c .before .byte-at .ensures, c .four-at2 .ensures) }
+returns c = record { answer = rw (c .before .enum-told .given .1, c .slope-in .ensures) }
 
 returns-2 : tie.Need-returns-2
-returns-2 c = record { answer = rw (c .before .before .enum-told2 .given .1, c .before .four-at3 .ensures, c .counts-at-4 .ensures) }
+returns-2 c = record { answer = rw (c .before .enum-told2 .given .1, c .steps-in .ensures) }
 
 returns-3 : tie.Need-returns-3
-returns-3 c = record { answer = rw (c .before .enum-told3 .given .1) (c .no-curve .ensures) }
+returns-3 c = record { answer = rw (c .enum-told3 .given .1) }
 
 pub plan-of-body-spec : {M : Type 1} → statement M
 plan-of-body-spec =
     tie.close
     (tie.spec
     enum-told
-    four-at-requires
-    byte-at-requires
-    four-at-requires-2
+    slope-in-requires
     enum-told-2
-    four-at-requires-3
-    counts-at-4-requires
+    steps-in-requires
     enum-told-3
-    no-curve-requires
     returns
     returns-2
     returns-3)

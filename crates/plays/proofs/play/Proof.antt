@@ -6,12 +6,12 @@ use Rattle.refusal.specs.declared.Count.{Count}
 use Rattle.plans.specs.Plans.{planChecks}
 use Rattle.scripts.specs.Scripts.{scriptFor}
 use Rattle.scripts.proofs.Lengths.{script-short}
-use Rattle.records.proofs.Owned.{plan-sized}
+use Rattle.curves.proofs.Owned.{plan-typed}
 use Rattle.scripts.proofs.Buffers.{refused-by-plan, accepted-plan, count, first-pairs}
 use Rattle.plays.specs.Plays.{Plays}
 use Rattle.plays.specs.NeverSlower.{Safely}
 use Rattle.plays.proofs.NeverSlower.{plays-safely}
-use Rattle.plays.proofs.Typed.{plan-typed, image-within}
+use Rattle.plays.proofs.Fitting.{image-within}
 use Rattle.plays.proofs.Answers.{play-refused, play-made}
 use lib.ListN.{length}
 use mathlib.Core.Path.{_≡_, refl, ap, _∙_}
@@ -37,7 +37,7 @@ at-most a b e = rw e (min-le-right a b)
 
 -- 48 bytes hold the script
 short : (c : tie.Start) → first (planChecks (c .args .plan)) ≡ 0 → length (scriptFor (c .args .plan)) ≤ 24
-short c e = script-short (c .args .plan) (plan-sized (c .args .plan) _ (c .good .0)) e
+short c e = script-short (c .args .plan) (plan-typed (c .args .plan) _ (c .good .0) .sized) e
 
 slice-aggregate-script : tie.Need-slice-aggregate-script
 slice-aggregate-script c = search needs

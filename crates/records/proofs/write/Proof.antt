@@ -18,7 +18,7 @@ use Rattle.cards.specs.Cards.{chipOf}
 use Rattle.curves.specs.declared.Plan.{Plan}
 use Rattle.plans.specs.Plans.{planChecks}
 use Rattle.records.specs.Records.{recordOf}
-use Rattle.records.proofs.Owned.{plan-sized}
+use Rattle.curves.proofs.Owned.{plan-typed}
 use Rattle.records.proofs.Encoding.{record-of-plan, length-short}
 use Rattle.records.proofs.Answers.{write-refused, write-short, write-whole}
 use Rattle.records.proofs.write.Statement.{statement}
@@ -54,7 +54,7 @@ judged c = sym (c .before .before .before .judge .ensures .answer) ∙ ap tells 
 long : (c : Judged) → 4 + c .body-length .result ≡ length (recordOf (chip c) (plan c))
 long c =
     let start = c .before .before .before .before .before .before .before .before .before in
-    ap (λ (n : ℕ). 4 + n) (c .body-length .ensures) ∙ sym (record-of-plan (chip c) (plan c) (plan-sized (plan c) _ (start .good .0)))
+    ap (λ (n : ℕ). 4 + n) (c .body-length .ensures) ∙ sym (record-of-plan (chip c) (plan c) (plan-typed (plan c) _ (start .good .0) .sized))
 
 -- the buffer keeps its length
 kept : (c : tie.At-loop Inv-loop μ-loop) → length (c .loop .out) ≡ length (old (c .before .before))

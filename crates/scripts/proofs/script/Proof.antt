@@ -4,7 +4,7 @@ use Rattle.refusal.specs.declared.Count.{Count}
 use Rattle.refusal.specs.Answers.{tellsCount}
 use Rattle.scripts.proofs.Prepared.{in-image, judged, prepared}
 use Rattle.scripts.proofs.Answers.{script-refused, script-put}
-use Rattle.records.proofs.Owned.{plan-sized}
+use Rattle.curves.proofs.Owned.{plan-typed}
 use mathlib.Core.Path.{refl, sym, ap, _∙_}
 use borrow.Author.Needs.{needs}
 use Rattle.scripts.proofs.script.Statement.{statement}
@@ -31,7 +31,7 @@ put-all-requires c κs = in-image (c .before .layout-of .ensures)
 returns : tie.Need-returns
 returns c =
     let wrote = c .before .before .before .before in
-    let sized = plan-sized _ _ (wrote .before .before .before .good .0) in
+    let sized = plan-typed _ _ (wrote .before .before .before .good .0) .sized in
     script-refused _ _ _ (ap (λ (u : Count). tellsCount u .0) (sym (c .before .refusal .given .1)) ∙ judged sized refl (wrote .write .ensures))
 
 same-length : tie.Need-same-length
@@ -41,7 +41,7 @@ returns-2 : tie.Need-returns-2
 returns-2 c =
     let laid = c .before .before .before .before in
     let wrote = laid .before .before .before .before in
-    let sized = plan-sized _ _ (wrote .before .before .before .good .0) in
+    let sized = plan-typed _ _ (wrote .before .before .before .good .0) .sized in
     let accepted = sym (judged sized refl (wrote .write .ensures)) ∙ ap (λ (u : Count). tellsCount u .0) (laid .before .enum-told .given .1) in
     script-put _ _ accepted (prepared sized refl (wrote .write .ensures) (laid .layout-of .ensures) accepted) (c .before .before .put-all .ensures)
 
