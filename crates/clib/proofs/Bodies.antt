@@ -1,6 +1,6 @@
 -- A plan that crosses is refused by 3, 4 or 5, or it is the plan in its body and the library checks what is left, in the same order.
 -- Assumes nothing.
-use Prim.Native.Nat.{ℕ}
+use Prim.Native.Nat.{ℕ, _*_}
 use native.Mathlib.Omega.{arith}
 use mathlib.Core.Path.{_≡_, ap, sym, _∙_}
 use mathlib.Core.List.{List, _++_}
@@ -22,7 +22,7 @@ use Rattle.curves.specs.Values.{Sized}
 use Rattle.records.specs.Records.{encoded, planOf, bodyChecks, bodyPlanChecks, roomChecks, writeChecks, Plans, Writes, WritesBy}
 use Rattle.records.proofs.Answers.{whole-asked, whole-judged, plan-taken}
 use Rattle.records.proofs.Encoding.{decoded-sized}
-use Rattle.scripts.specs.Scripts.{scriptFor, roomForPairs, scriptChecks, Scripts, ScriptsBy}
+use Rattle.scripts.specs.Scripts.{scriptFor, scriptChecks, Scripts, ScriptsBy}
 use Rattle.plays.specs.Plays.{startChecks, playChecks, Plays, PlaysBy}
 use Rattle.clib.specs.Bodies.{writeBodyChecks, scriptBodyChecks, playBodyChecks}
 
@@ -43,12 +43,12 @@ module _ (chip table : ℕ) (body : List ℕ) (refusal : Refusal) (found : Found
 
   pub write-refused : (old : List ℕ) → WritesBy (writeBodyChecks chip table body old) (planOf chip table body) old (counted.Refused refusal) old
   write-refused old =
-      let all = by-all (roomChecks (encoded (planOf chip table body)) old) in
+      let all = by-all (roomChecks (length (encoded (planOf chip table body))) old) in
       record { answer = told-refused refusal (writeBodyChecks chip table body old) _ all; bytes = when-refused refusal _ old all }
 
   pub script-refused : (old : List ℕ) → ScriptsBy (scriptBodyChecks chip table body old) (planOf chip table body) old (counted.Refused refusal) old
   script-refused old =
-      let all = by-all (roomForPairs (length (scriptFor (planOf chip table body))) old) in
+      let all = by-all (roomChecks (2 * length (scriptFor (planOf chip table body))) old) in
       record { answer = told-refused refusal (scriptBodyChecks chip table body old) _ all; bytes = when-refused refusal _ old all }
 
   pub play-refused : (old : List ℕ) (count : ℕ)
@@ -90,7 +90,7 @@ module _ (chip table : ℕ) (body : List ℕ) {plan : Plan} (C : Crossed chip ta
   pub write-crossed : {old new : List ℕ} {r : Count} → Writes plan old r new → WritesBy (writeBodyChecks chip table body old) its old r new
   write-crossed {old} {new} {r} p =
       let q : Writes its old r new = rw (C .same) at p in
-      let e = C .checks (roomChecks (encoded its) old) in
+      let e = C .checks (roomChecks (length (encoded its)) old) in
       record {
         answer = q .answer ∙ same-told 0 _ (writeChecks its old) (writeBodyChecks chip table body old) e;
         bytes = q .bytes ∙ same-left _ old (writeChecks its old) (writeBodyChecks chip table body old) e;
@@ -99,7 +99,7 @@ module _ (chip table : ℕ) (body : List ℕ) {plan : Plan} (C : Crossed chip ta
   pub script-crossed : {old new : List ℕ} {r : Count} → Scripts plan old r new → ScriptsBy (scriptBodyChecks chip table body old) its old r new
   script-crossed {old} {new} {r} p =
       let q : Scripts its old r new = rw (C .same) at p in
-      let e = C .checks (roomForPairs (length (scriptFor its)) old) in
+      let e = C .checks (roomChecks (2 * length (scriptFor its)) old) in
       record {
         answer = q .answer ∙ same-told 0 _ (scriptChecks its old) (scriptBodyChecks chip table body old) e;
         bytes = q .bytes ∙ same-left _ old (scriptChecks its old) (scriptBodyChecks chip table body old) e;

@@ -85,7 +85,7 @@ answer (readRecord bs) =
     (cond (eqb (first (recordChecks bs)) 0) (planIn bs) noPlan)
 answer (askedOfImage chip table image t) =
     packs (told (askImageChecks chip table image) (whenKnown (chipOf chip) (λ c. asks c (held (tableOf c table) image) t) 0))
-answer (translate input old) = packs (told (roomChecks (textOf input) old) (length (textOf input)))
+answer (translate input old) = packs (told (roomChecks (length (textOf input)) old) (length (textOf input)))
 
 only : (call : Call) (r : ℕ) → Promise call r → r ≡ answer call
 only (read chip image address) r p = p .same ∙ ap packs (p .kept .answer)

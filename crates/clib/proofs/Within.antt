@@ -110,4 +110,4 @@ play-room {plan} {count} {old} p =
 
 pub text-room : {input old new : List ℕ} {r : Count} → Translates input old r new → tellsCount r .1 < 2 ^ 56
 text-room {input} {old} p =
-    told-within (roomChecks (textOf input) old) (length (textOf input)) (2 ^ 56) (omega (arith, text-short input)) (p .answer)
+    told-within (roomChecks (length (textOf input)) old) (length (textOf input)) (2 ^ 56) (omega (arith, text-short input)) (p .answer)

@@ -1,21 +1,21 @@
 -- A plan crosses as its chip, its table and the bytes of its body "in the register order": a record without its mark, so that bytes behind the
 -- body are ignored and a body that is cut short is refused. What each call that takes one checks.
 -- Assumes nothing.
-use Prim.Native.Nat.{ℕ}
+use Prim.Native.Nat.{ℕ, _*_}
 use mathlib.Core.List.{List, _++_}
 use lib.ListN.{length}
 use Rattle.refusal.specs.Checks.{Check}
 use Rattle.records.specs.Records.{planOf, encoded, bodyPlanChecks, roomChecks}
-use Rattle.scripts.specs.Scripts.{scriptFor, roomForPairs}
+use Rattle.scripts.specs.Scripts.{scriptFor}
 use Rattle.plays.specs.Plays.{startChecks}
 
 -- 3, 4, 5, 6, 7 "and then 9"
 abbrev pub writeBodyChecks : ℕ → ℕ → List ℕ → List ℕ → List Check
-writeBodyChecks chip table body out = bodyPlanChecks chip table body ++ roomChecks (encoded (planOf chip table body)) out
+writeBodyChecks chip table body out = bodyPlanChecks chip table body ++ roomChecks (length (encoded (planOf chip table body))) out
 
 abbrev pub scriptBodyChecks : ℕ → ℕ → List ℕ → List ℕ → List Check
 scriptBodyChecks chip table body out =
-    bodyPlanChecks chip table body ++ roomForPairs (length (scriptFor (planOf chip table body))) out
+    bodyPlanChecks chip table body ++ roomChecks (2 * length (scriptFor (planOf chip table body))) out
 
 -- 3, 4, 5, 6, 7, "8, 10 and no 9"
 abbrev pub playBodyChecks : ℕ → ℕ → List ℕ → List ℕ → List Check

@@ -125,7 +125,7 @@ pub record Demand1 : Type 0 where
   pub play : (plan : Plan) (old : List ℕ) (count : ℕ) (r : Count) (new : List ℕ) → plays.Plays plan old count r new
       → Answered (plays.playChecks plan old) 0 (tellsCount r) × Kept (tellsCount r .0) old new
   pub translate : (input old : List ℕ) (r : Count) (new : List ℕ) → translation.Translates input old r new
-      → Answered (records.roomChecks (translation.textOf input) old) 0 (tellsCount r) × Kept (tellsCount r .0) old new
+      → Answered (records.roomChecks (length (translation.textOf input)) old) 0 (tellsCount r) × Kept (tellsCount r .0) old new
   -- the C boundary
   pub yk-write : (chip : ℕ) (old : List ℕ) (address byte r : ℕ) (new : List ℕ) → YkWrite chip old address byte r new
       → Answered (images.imageChecks chip old) 0 (unpacked r) × Kept (unpacked r .0) old new
@@ -153,7 +153,7 @@ pub record Demand1 : Type 0 where
   pub yk-play : (chip table : ℕ) (body old : List ℕ) (count r : ℕ) (new : List ℕ) → YkPlay chip table body old count r new
       → Answered (playBodyChecks chip table body old) 0 (unpacked r) × Kept (unpacked r .0) old new
   pub yk-translate : (input old : List ℕ) (r : ℕ) (new : List ℕ) → YkTranslate input old r new
-      → Answered (records.roomChecks (translation.textOf input) old) 0 (unpacked r) × Kept (unpacked r .0) old new
+      → Answered (records.roomChecks (length (translation.textOf input)) old) 0 (unpacked r) × Kept (unpacked r .0) old new
 
 pub record Demand2 : Type 0 where
   -- "Temperatures go from bytes to steps and back, ignored bits aside": the bytes of n steps are counted as n ..

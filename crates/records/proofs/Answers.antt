@@ -168,7 +168,7 @@ record-accepted bytes n plan C none e d =
 pub write-refused : (plan : Plan) (old : List ℕ) (refusal : Refusal) → numberOf refusal ≡ first (planChecks plan)
     → Writes plan old (counted.Refused refusal) old
 write-refused plan old refusal e =
-    let f = e ∙ sym (first-refused (planChecks plan) (roomChecks (encoded plan) old) (rw (sym e) (numberOf-positive refusal))) in
+    let f = e ∙ sym (first-refused (planChecks plan) (roomChecks (length (encoded plan)) old) (rw (sym e) (numberOf-positive refusal))) in
     record {
       answer = told-refused refusal (writeChecks plan old) _ f;
       bytes = when-refused refusal _ old f;
@@ -176,8 +176,8 @@ write-refused plan old refusal e =
 
 -- an accepted plan is refused only for want of room
 module _ (chip : Chip) (plan : Plan) (old : List ℕ) (named : chipOf (plan .chip) ≡ Known chip) (judged : first (planChecks plan) ≡ 0) where
-  room : first (writeChecks plan old) ≡ first (roomChecks (recordOf chip plan) old)
-  room = first-passed (planChecks plan) (roomChecks (encoded plan) old) refl judged ∙ (rw named)
+  room : first (writeChecks plan old) ≡ first (roomChecks (length (recordOf chip plan)) old)
+  room = first-passed (planChecks plan) (roomChecks (length (encoded plan)) old) refl judged ∙ (rw named)
 
   pub write-short : length old < length (recordOf chip plan) → Writes plan old (counted.Refused Refusal.OutputTooShort) old
   write-short h =

@@ -108,8 +108,8 @@ pub read-written : (bytes : List ℕ) (n : ℕ) (q : Found) (old : List ℕ) (r 
 read-written bytes n q old r new small R e W room =
     let A = read-accepts bytes n q small R e in
     let size : length (encoded (q .plan)) ≡ n = ap length (A .record-of) ∙ length-take-le n bytes (A .within) in
-    let fits : first (roomChecks (encoded (q .plan)) old) ≡ 0 = rw (le-ltb (length old) (length (encoded (q .plan))) (omega arith)) in
-    let none = first-passed (planChecks (q .plan)) (roomChecks (encoded (q .plan)) old) refl (A .judged) ∙ fits in (
+    let fits : first (roomChecks (length (encoded (q .plan))) old) ≡ 0 = rw (le-ltb (length old) (length (encoded (q .plan))) (omega arith)) in
+    let none = first-passed (planChecks (q .plan)) (roomChecks (length (encoded (q .plan))) old) refl (A .judged) ∙ fits in (
       tellsCount-injective r (counted.Of n)
           (W .answer ∙ sym (told-passed (writeChecks (q .plan) old) (length (encoded (q .plan))) none) ∙ ap (λ (k : ℕ). (0, k)) size),
       W .bytes
@@ -149,7 +149,7 @@ pub written-read : (plan : Plan) (old : List ℕ) (n : ℕ) (r : Count) (new : L
     → Writes plan old r new → r ≡ counted.Of n → Reads new q → (q .answer ≡ counted.Of n) × (q .plan ≡ own plan)
 written-read plan old n r new q S W e R =
     let t = told-of (writeChecks plan old) (length (encoded plan)) n r e (W .answer) in
-    let accepts = first-front (planChecks plan) (roomChecks (encoded plan) old) refl (t .0) in
+    let accepts = first-front (planChecks plan) (roomChecks (length (encoded plan)) old) refl (t .0) in
     let known = chip-known (plan .chip) (accepted-known plan accepts) in
     let wrote : new ≡ encoded plan ++ drop (length (encoded plan)) old = W .bytes ∙ sym (when-passed _ old (t .0)) in
     let back = named-read (known .chip) plan (drop (length (encoded plan)) old) q S (known .named) accepts (rw wrote at R) in

@@ -92,13 +92,13 @@ abbrev pub recordChecks : List ℕ → List Check
 recordChecks bytes =
     (headerCutShort bytes, 1) ∷ (wrongMark bytes, 2) ∷ bodyPlanChecks (chipIn bytes) (tableIn bytes) (bodyIn bytes)
 
--- refusal 9: "the output buffer is shorter than the result"
-abbrev pub roomChecks : List ℕ → List ℕ → List Check
-roomChecks result out = (ltb (length out) (length result), 9) ∷ []
+-- refusal 9: "the output buffer is shorter than the result", of as many bytes
+abbrev pub roomChecks : ℕ → List ℕ → List Check
+roomChecks bytes out = (ltb (length out) bytes, 9) ∷ []
 
 -- "Writing a plan record .. checks the plan by 3, 4, 6, 7 and then 9"
 abbrev pub writeChecks : Plan → List ℕ → List Check
-writeChecks plan out = planChecks plan ++ roomChecks (encoded plan) out
+writeChecks plan out = planChecks plan ++ roomChecks (length (encoded plan)) out
 
 -- what `records::plan_from` promises: the plan, and how many of the bytes are its body. They are only read, so they are what they were.
 pub record Plans (chip table : ℕ) (bytes : List ℕ) (r : Found) : Type 0 where

@@ -17,8 +17,9 @@ use Rattle.refusal.specs.declared.Count.{Count}
 use Rattle.refusal.specs.declared.Count.the-variants as counted
 use Rattle.curves.specs.declared.Plan.{Plan}
 use Rattle.plans.specs.Plans.{planChecks}
+use Rattle.records.specs.Records.{roomChecks}
 use Rattle.scripts.specs.declared.making.Layout.{Layout}
-use Rattle.scripts.specs.Scripts.{Pair, flat, scriptFor, roomForPairs, scriptChecks, Scripts}
+use Rattle.scripts.specs.Scripts.{Pair, flat, scriptFor, scriptChecks, Scripts}
 use Rattle.scripts.specs.Making.{writesOf, pairsOf, Describes, Puts}
 
 -- a refusal by the first checks is one by all of them
@@ -39,7 +40,7 @@ module _ (plan : Plan) (out : List ℕ) where
 
   pub script-refused : (r : Refusal) → numberOf r ≡ first (planChecks plan) → Scripts plan out (counted.Refused r) out
   script-refused r e =
-      let all = still-refused r (planChecks plan) (roomForPairs (length pairs) out) e in
+      let all = still-refused r (planChecks plan) (roomChecks (2 * length pairs) out) e in
       record { answer = told-refused r (scriptChecks plan out) (length pairs) all; bytes = when-refused r _ out all }
 
   pub script-put : {l : Layout} {bytes new : List ℕ} {r : Count} → first (planChecks plan) ≡ 0 → Describes l bytes pairs → Puts l bytes out r new
@@ -47,8 +48,8 @@ module _ (plan : Plan) (out : List ℕ) where
   script-put {l} {bytes} {new} {r} e d p =
       let whole : pairsOf l bytes (writesOf l) ≡ pairs =
       d .places (writesOf l) (omega (arith, d .writes)) ∙ take-all (writesOf l) pairs (omega (arith, d .writes)) in
-      let checks : first (roomForPairs (writesOf l) out) ≡ first (scriptChecks plan out) =
-      ap (λ (n : ℕ). first (roomForPairs n out)) (d .writes) ∙ sym (first-passed (planChecks plan) (roomForPairs (length pairs) out) refl e) in
+      let checks : first (roomChecks (2 * writesOf l) out) ≡ first (scriptChecks plan out) =
+      ap (λ (n : ℕ). first (roomChecks (2 * n) out)) (d .writes) ∙ sym (first-passed (planChecks plan) (roomChecks (2 * length pairs) out) refl e) in
       record {
         answer = p .answer ∙ ap₂ (λ (n w : ℕ). (n, cond (eqb n 0) w 0)) checks (d .writes);
         bytes =

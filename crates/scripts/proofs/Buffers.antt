@@ -19,7 +19,8 @@ use Rattle.refusal.specs.declared.Count.the-variants as counted
 use Rattle.refusal.specs.Answers.{tellsCount}
 use Rattle.curves.specs.declared.Plan.{Plan}
 use Rattle.plans.specs.Plans.{planChecks}
-use Rattle.scripts.specs.Scripts.{Pair, flat, pairsIn, scriptFor, roomForPairs, scriptChecks, Scripts}
+use Rattle.records.specs.Records.{roomChecks}
+use Rattle.scripts.specs.Scripts.{Pair, flat, pairsIn, scriptFor, scriptChecks, Scripts}
 use Rattle.scripts.proofs.Answers.{first-alone}
 
 -- a script's bytes hold its pairs
@@ -43,7 +44,7 @@ module _ {plan : Plan} {old bytes : List ℕ} {r : Count} (short : first (planCh
     (s : Scripts plan old r bytes) where
   judged : first (scriptChecks plan old) ≡ first (planChecks plan)
   judged =
-      first-alone (planChecks plan) (roomForPairs (length (scriptFor plan)) old) refl
+      first-alone (planChecks plan) (roomChecks (2 * length (scriptFor plan)) old) refl
       (λ e. rw (le-ltb (length old) (2 * length (scriptFor plan)) (omega (arith, short e))))
 
   pub refused-by-plan : (q : Refusal) → r ≡ counted.Refused q → numberOf q ≡ first (planChecks plan)

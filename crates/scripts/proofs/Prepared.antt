@@ -148,7 +148,7 @@ module _ {plan : Plan} {old bytes : List ℕ} {used : Count} (long : Sized plan)
   pub judged : tellsCount used .0 ≡ first (planChecks plan)
   judged =
       ap (λ (t : ℕ × ℕ). t .0) (w .answer)
-      ∙ first-alone (planChecks plan) (roomChecks (encoded plan) old) refl
+      ∙ first-alone (planChecks plan) (roomChecks (length (encoded plan)) old) refl
       (λ e. rw (le-ltb (length old) (length (encoded plan)) (omega (arith, record-short plan long))))
 
   -- and an accepted plan's script is described

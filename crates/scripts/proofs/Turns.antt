@@ -12,8 +12,9 @@ use Rattle.refusal.specs.declared.Refusal.the-variants.{OutputTooShort}
 use Rattle.refusal.specs.Checks.{first}
 use Rattle.refusal.proofs.Passed.{when-passed, when-refused, told-passed, told-refused}
 use Rattle.refusal.specs.declared.Count.the-variants as counted
+use Rattle.records.specs.Records.{roomChecks}
 use Rattle.scripts.specs.declared.making.Layout.{Layout}
-use Rattle.scripts.specs.Scripts.{Pair, flat, roomForPairs}
+use Rattle.scripts.specs.Scripts.{Pair, flat}
 use Rattle.scripts.specs.Making.{writesOf, pairAt, pairsOf, Puts}
 
 flat-append : (xs ys : List Pair) → flat (xs ++ ys) ≡ flat xs ++ flat ys
@@ -84,13 +85,13 @@ pub put-all : {l : Layout} {bytes old out : List ℕ} {k : ℕ} → Written l by
     → Puts l bytes old (counted.Of (writesOf l)) out
 put-all {l} {bytes} {old} {out} {k} w h =
     let all : k ≡ writesOf l = omega (arith, w .within) in
-    let none : first (roomForPairs (writesOf l) old) ≡ 0 = rw (le-ltb (length old) (2 * writesOf l) (w .room)) in
+    let none : first (roomChecks (2 * writesOf l) old) ≡ 0 = rw (le-ltb (length old) (2 * writesOf l) (w .room)) in
     record {
-      answer = told-passed (roomForPairs (writesOf l) old) (writesOf l) none;
+      answer = told-passed (roomChecks (2 * writesOf l) old) (writesOf l) none;
       bytes = w .same ∙ ap (λ (j : ℕ). flat (pairsOf l bytes j) ++ drop (2 * j) old) all ∙ when-passed _ old none;
     }
 
 pub put-none : (l : Layout) (bytes old : List ℕ) → length old < 2 * writesOf l → Puts l bytes old (counted.Refused OutputTooShort) old
 put-none l bytes old h =
-    let all : 9 ≡ first (roomForPairs (writesOf l) old) = rw (lt-ltb (length old) (2 * writesOf l) h) in
-    record { answer = told-refused OutputTooShort (roomForPairs (writesOf l) old) (writesOf l) all; bytes = when-refused OutputTooShort _ old all }
+    let all : 9 ≡ first (roomChecks (2 * writesOf l) old) = rw (lt-ltb (length old) (2 * writesOf l) h) in
+    record { answer = told-refused OutputTooShort (roomChecks (2 * writesOf l) old) (writesOf l) all; bytes = when-refused OutputTooShort _ old all }

@@ -12,9 +12,10 @@ use Rattle.refusal.specs.Checks.{told, left}
 use Rattle.cards.specs.declared.types.Chip.{Chip}
 use Rattle.cards.specs.declared.types.Chip.the-variants.{Nct7802y, F75373s, Nct80}
 use Rattle.cards.specs.Cards.{chipOf, whenKnown, hasTable, baseOf}
+use Rattle.records.specs.Records.{roomChecks}
 use Rattle.scripts.specs.declared.making.Layout.{Layout}
 use Rattle.scripts.specs.declared.making.Pair as code
-use Rattle.scripts.specs.Scripts.{Pair, fullOf, flat, roomForPairs}
+use Rattle.scripts.specs.Scripts.{Pair, fullOf, flat}
 
 -- how many pairs there are: the speeds raised, then every register
 abbrev pub writesOf : Layout → ℕ
@@ -63,5 +64,5 @@ pub record Describes (l : Layout) (bytes : List ℕ) (pairs : List Pair) : Type 
 
 -- all pairs at the front of a buffer, or none
 pub record Puts (l : Layout) (record-bytes old : List ℕ) (r : Count) (new : List ℕ) : Type 0 where
-  pub answer : tellsCount r ≡ told (roomForPairs (writesOf l) old) (writesOf l)
-  pub bytes : new ≡ left (roomForPairs (writesOf l) old) (flat (pairsOf l record-bytes (writesOf l)) ++ drop (2 * writesOf l) old) old
+  pub answer : tellsCount r ≡ told (roomChecks (2 * writesOf l) old) (writesOf l)
+  pub bytes : new ≡ left (roomChecks (2 * writesOf l) old) (flat (pairsOf l record-bytes (writesOf l)) ++ drop (2 * writesOf l) old) old

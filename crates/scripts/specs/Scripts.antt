@@ -3,7 +3,6 @@
 use Prim.Native.Nat.{ℕ, zero, suc, _+_, _*_}
 use mathlib.Core.Path.{_≡_}
 use mathlib.Core.List.{List, [], _∷_, _++_}
-use lib.Dec.{ltb}
 use lib.ListN.{length, getD, drop}
 use Rattle.refusal.specs.declared.Count.{Count}
 use Rattle.refusal.specs.Answers.{tellsCount}
@@ -17,6 +16,7 @@ use Rattle.curves.specs.Curves.{points}
 use Rattle.curves.specs.Orders.{fulls}
 use Rattle.curves.specs.Planned.{Curve, planned}
 use Rattle.plans.specs.Plans.{planChecks}
+use Rattle.records.specs.Records.{roomChecks}
 
 -- "A script is pairs of address and byte."
 abbrev pub Pair : Type 0
@@ -61,13 +61,9 @@ pairsIn (suc n) bytes = pairsIn n bytes ++ ((getD bytes (2 * n) 0, getD bytes (2
 abbrev pub scriptFor : Plan → List Pair
 scriptFor plan = whenKnown (chipOf (plan .chip)) (λ c. scriptOf c plan) []
 
--- refusal 9: "the output buffer is shorter than the result"
-abbrev pub roomForPairs : ℕ → List ℕ → List Check
-roomForPairs writes out = (ltb (length out) (2 * writes), 9) ∷ []
-
 -- "Writing .. a script checks the plan by 3, 4, 6, 7 and then 9"
 abbrev pub scriptChecks : Plan → List ℕ → List Check
-scriptChecks plan out = planChecks plan ++ roomForPairs (length (scriptFor plan)) out
+scriptChecks plan out = planChecks plan ++ roomChecks (2 * length (scriptFor plan)) out
 
 -- what a call that writes a plan's script promises, by its own list of checks: "The answer says how many writes"; "An output longer than the
 -- result keeps its tail." ..

@@ -78,5 +78,5 @@ textOf input = cond (ltb 4096 (length input)) tooLong (textFrom (length input) 0
 -- what `translation::translate` promises: refused 9 where "the output buffer is shorter than the result"; "An output longer than the result
 -- keeps its tail." The input is only read, so it is what it was.
 pub record Translates (input old : List ℕ) (r : Count) (new : List ℕ) : Type 0 where
-  pub answer : tellsCount r ≡ told (roomChecks (textOf input) old) (length (textOf input))
-  pub bytes : new ≡ left (roomChecks (textOf input) old) (textOf input ++ drop (length (textOf input)) old) old
+  pub answer : tellsCount r ≡ told (roomChecks (length (textOf input)) old) (length (textOf input))
+  pub bytes : new ≡ left (roomChecks (length (textOf input)) old) (textOf input ++ drop (length (textOf input)) old) old
