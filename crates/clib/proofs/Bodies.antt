@@ -16,12 +16,13 @@ use Rattle.refusal.proofs.Passed.{first-refused, told-refused, when-refused, sa
 use Rattle.curves.specs.declared.Plan.{Plan}
 use Rattle.plans.specs.declared.Asked.{Asked}
 use Rattle.plans.specs.declared.Asked.the-variants as asked
-use Rattle.plans.specs.Plans.{decoded, askPlanChecks, orderChecks, planChecks, AsksPlan, AsksPlanBy}
+use Rattle.bodies.specs.Bodies.{decoded}
+use Rattle.plans.specs.Plans.{askPlanChecks, orderChecks, planChecks, AsksPlan, AsksPlanBy}
 use Rattle.records.specs.declared.Found.{Found}
 use Rattle.curves.specs.Values.{Sized}
 use Rattle.records.specs.Records.{encoded, planOf, bodyChecks, bodyPlanChecks, roomChecks, writeChecks, Plans, Writes, WritesBy}
 use Rattle.records.proofs.Answers.{whole-asked, whole-judged, plan-taken}
-use Rattle.records.proofs.Encoding.{decoded-sized}
+use Rattle.bodies.proofs.Laws.{decoded-sized}
 use Rattle.scripts.specs.Scripts.{scriptFor, scriptChecks, Scripts, ScriptsBy}
 use Rattle.plays.specs.Plays.{startChecks, playChecks, Plays, PlaysBy}
 use Rattle.clib.specs.Bodies.{writeBodyChecks, scriptBodyChecks, playBodyChecks}

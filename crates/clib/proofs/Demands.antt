@@ -4,6 +4,7 @@ use Prim.Native.Nat.{ℕ, _+_, _*_}
 use mathlib.Core.Path.{_≡_, refl, sym, ap, _∙_}
 use mathlib.Core.Bool.{Bool, true, false, cond, not}
 use mathlib.Core.List.{List, [], _∷_}
+use lib.ListN.{getD}
 use lib.IntN.{ℤ, pos}
 use lib.ListN.{length}
 use borrow.Author.Tests.{not-false}
@@ -28,7 +29,7 @@ use Rattle.watch.specs.declared.Sampled.{Sampled}
 use Rattle.watch.specs.Alarm.{fresh, taken, isSample, acknowledged, shown, run, recorded}
 use Rattle.watch.specs.Promises as watch
 use Rattle.curves.specs.Planned.{planned, asks, temperaturesInOrder, speedsInOrder}
-use Rattle.plans.specs.Plans.{decoded}
+use Rattle.bodies.specs.Bodies.{body, decoded}
 use Rattle.records.proofs.RoundTrip.{read-written, written-read}
 use Rattle.clib.specs.Facts.{factsOf}
 use Rattle.clib.specs.Demands.{Answered, Demand1, Demand2}
@@ -87,10 +88,11 @@ demand-1 =
       speed-of = λ chip plan t. record { answer = asks chip (planned chip plan) t; kept = record { answer = refl } };
       temperatures-in-order = λ chip plan. record { answer = temperaturesInOrder chip plan; kept = record { answer = refl } };
       speeds-in-order = λ chip plan. record { answer = speedsInOrder chip plan; kept = record { answer = refl } };
+      plan-of = λ chip table bytes. record { answer = decoded chip table bytes; kept = record { answer = refl } };
+      byte-of = λ chip plan k. record { answer = getD (body (planned chip plan)) k 0; kept = record { answer = refl } };
       judge = λ plan r p. verdict-answered r _ (p .answer);
       asked-of-plan = λ plan t r p. told-answered 0 _ _ (p .answer);
       asked-of-image = λ chip table image t r p. told-answered 0 _ _ (p .answer);
-      plan-of-body = λ chip table body. record { answer = decoded chip table body; kept = record { answer = refl } };
       plan-from = λ chip table body r p. found-answered _ _ _ r (p .answer) (p .plan);
       read-record = λ bytes r p. found-answered _ _ _ r (p .answer) (p .plan);
       write-record = λ plan old r new p. count-answered r _ _ _ (p .answer) (p .bytes);

@@ -36,6 +36,7 @@ use Rattle.watch.specs.Promises as watch
 use Rattle.curves.specs.declared.Plan.{Plan}
 use Rattle.curves.specs.Values.{Sized}
 use Rattle.curves.specs.Planned as curves
+use Rattle.bodies.specs.Bodies as bodies
 use Rattle.plans.specs.declared.Asked.{Asked}
 use Rattle.plans.specs.Plans as plans
 use Rattle.records.specs.declared.Found.{Found}
@@ -109,11 +110,12 @@ pub record Demand1 : Type 0 where
   pub speed-of : (chip : Chip) (plan : Plan) (t : ℕ) → Given (λ r. curves.Asks chip plan t r)
   pub temperatures-in-order : (chip : Chip) (plan : Plan) → Given (λ r. curves.OrdersTemperatures chip plan r)
   pub speeds-in-order : (chip : Chip) (plan : Plan) → Given (λ r. curves.OrdersSpeeds chip plan r)
+  pub plan-of : (chip : Chip) (table : ℕ) (bytes : List ℕ) → Given (λ plan. bodies.Decodes chip table bytes plan)
+  pub byte-of : (chip : Chip) (plan : Plan) (k : ℕ) → Given (λ byte. bodies.Encodes chip plan k byte)
   pub judge : (plan : Plan) (r : Outcome) → plans.Judges plan r → Answered (plans.planChecks plan) tt (verdict r)
   pub asked-of-plan : (plan : Plan) (t : ℕ) (r : Asked) → plans.AsksPlan plan t r → Answered (plans.askPlanChecks plan) 0 (plans.tellsAsked r)
   pub asked-of-image : (chip table : ℕ) (image : List ℕ) (t : ℕ) (r : Asked) → plans.AsksImage chip table image t r
       → Answered (plans.askImageChecks chip table image) 0 (plans.tellsAsked r)
-  pub plan-of-body : (chip : Chip) (table : ℕ) (body : List ℕ) → Given (λ plan. plans.Decodes chip table body plan)
   -- records, scripts, plays and texts
   pub plan-from : (chip table : ℕ) (body : List ℕ) (r : Found) → records.Plans chip table body r
       → Answered (records.bodyChecks chip table body) (0, records.noPlan) (tellsFound r)

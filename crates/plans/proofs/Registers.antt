@@ -15,7 +15,8 @@ use Rattle.cards.specs.declared.types.Chip.the-variants.{Nct7802y, F75373s, Nct
 use Rattle.cards.proofs.Tables.{table-at-base}
 use Rattle.curves.specs.Curves.{steps, words}
 use Rattle.curves.specs.Planned.{Curve, planned, bytesAt, asks}
-use Rattle.plans.specs.Plans.{held, decoded}
+use Rattle.bodies.specs.Bodies.{decoded}
+use Rattle.plans.specs.Plans.{held}
 use Rattle.curves.proofs.Registers.{planned-count}
 
 -- what stands behind a base

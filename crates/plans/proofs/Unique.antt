@@ -8,11 +8,10 @@ use Rattle.refusal.proofs.Numbers.{numberOf-injective, numberOf-positive}
 use Rattle.refusal.proofs.Answers.{tells-injective}
 use Rattle.refusal.specs.declared.Outcome.{Outcome}
 use Rattle.refusal.specs.Checks.{Check}
-use Rattle.cards.specs.declared.types.Chip.{Chip}
 use Rattle.curves.specs.declared.Plan.{Plan}
 use Rattle.plans.specs.declared.Asked.{Asked}
 use Rattle.plans.specs.declared.Asked.the-variants as asked
-use Rattle.plans.specs.Plans.{tellsAsked, Judges, AsksPlanBy, AsksImage, Decodes}
+use Rattle.plans.specs.Plans.{tellsAsked, Judges, AsksPlanBy, AsksImage}
 
 pub tellsAsked-injective : (r s : Asked) → tellsAsked r ≡ tellsAsked s → r ≡ s
 tellsAsked-injective (asked.Speed a) (asked.Speed b) e = ap asked.Speed (ap (λ (t : ℕ × ℕ). t .1) e)
@@ -29,6 +28,3 @@ asksPlan-unique {r = r} {s = s} p q = tellsAsked-injective r s (p .answer ∙ sy
 pub asksImage-unique : {chip table : ℕ} {image : List ℕ} {t : ℕ} {r s : Asked}
     → AsksImage chip table image t r → AsksImage chip table image t s → r ≡ s
 asksImage-unique {r = r} {s = s} p q = tellsAsked-injective r s (p .answer ∙ sym (q .answer))
-
-pub decodes-unique : {chip : Chip} {table : ℕ} {body : List ℕ} {r s : Plan} → Decodes chip table body r → Decodes chip table body s → r ≡ s
-decodes-unique p q = p .answer ∙ sym (q .answer)

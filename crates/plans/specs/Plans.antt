@@ -4,20 +4,14 @@ use Prim.Native.Nat.{ℕ}
 use mathlib.Core.Path.{_≡_}
 use mathlib.Core.Bool.{Bool, true, not}
 use mathlib.Core.List.{List, [], _∷_, _++_}
-use lib.ListN.{getD}
 use Rattle.refusal.specs.declared.Outcome.{Outcome}
 use Rattle.refusal.specs.Refusals.{numberOf}
 use Rattle.refusal.specs.Answers.{tells}
 use Rattle.refusal.specs.Checks.{Check, first, told}
-use Rattle.cards.specs.declared.types.Chip.{Chip}
-use Rattle.cards.specs.declared.types.Chip.the-variants.{Nct7802y, F75373s, Nct80}
-use Rattle.cards.specs.Rows.{Table, from}
+use Rattle.cards.specs.declared.Chip.{Chip}
+use Rattle.cards.specs.Rows.{Table}
 use Rattle.cards.specs.Cards.{chipOf, whenKnown, unknown, noTable, notAnImage, tableOf}
-use Rattle.curves.specs.declared.SlopeValues.{SlopeValues}
-use Rattle.curves.specs.declared.StepValues.{StepValues}
 use Rattle.curves.specs.declared.Plan.{Plan}
-use Rattle.curves.specs.Curves.{words}
-use Rattle.curves.specs.Values.{noSlope, noSteps}
 use Rattle.curves.specs.Planned.{Curve, planned, bytesAt, asks, temperaturesInOrder, speedsInOrder}
 use Rattle.plans.specs.declared.Asked.{Asked}
 use Rattle.plans.specs.declared.Asked.the-variants as asked
@@ -25,19 +19,6 @@ use Rattle.plans.specs.declared.Asked.the-variants as asked
 -- the curve that a table's registers hold in an image
 abbrev pub held : Table → List ℕ → Curve
 held table image = record { settings = bytesAt image (table .settings); speeds = bytesAt image (table .speeds) }
-
--- the values that stand in a body's bytes, "in the register order". What a short body lacks counts as 0.
-abbrev pub slopeIn : List ℕ → SlopeValues
-slopeIn body = record { temperatures = bytesAt body (from 0 4); critical = getD body 4 0; duties = bytesAt body (from 5 4) }
-
-abbrev pub stepsIn : List ℕ → StepValues
-stepsIn body = record { bounds = bytesAt body (from 0 4); counts = words (bytesAt body (from 4 10)) }
-
--- the plan whose curve stands in a body's bytes; "those of the other chip are zero in what is read"
-abbrev pub decoded : Chip → ℕ → List ℕ → Plan
-decoded Nct7802y table body = record { chip = 1; table = table; slope = slopeIn body; steps = noSteps }
-decoded F75373s table body = record { chip = 2; table = table; slope = noSlope; steps = stepsIn body }
-decoded Nct80 table body = record { chip = 3; table = table; slope = noSlope; steps = noSteps }
 
 -- refusal 6: "temperatures of the plan are out of order"
 abbrev pub temperaturesOut : Plan → Bool
@@ -85,7 +66,3 @@ pub record AsksImage (chip table : ℕ) (image : List ℕ) (t : ℕ) (r : Asked)
       tellsAsked r
       ≡ told (askImageChecks chip table image)
       (whenKnown (chipOf chip) (λ c. asks c (held (tableOf c table) image) t) 0)
-
--- what `plans::plan_of_body` promises. The body is only read, so it holds what it held.
-pub record Decodes (chip : Chip) (table : ℕ) (body : List ℕ) (plan : Plan) : Type 0 where
-  pub answer : plan ≡ decoded chip table body

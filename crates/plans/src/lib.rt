@@ -1,11 +1,7 @@
 // Cooling plans: which are accepted, and what speed a plan, or the curve in an image, asks at a temperature.
-mod bodies;
-
 use cards::Chip;
 use cards::Named;
 use cards::Place;
-use curves::NO_SLOPE;
-use curves::NO_STEPS;
 use curves::Plan;
 use refusal::Outcome;
 use refusal::Refusal;
@@ -16,7 +12,7 @@ ghost use Rattle.refusal.specs.Checks.{first};
 ghost use Rattle.refusal.specs.Answers.{tells};
 ghost use Rattle.cards.specs.Cards.{hasTable};
 ghost use Rattle.curves.specs.Planned.{temperaturesInOrder, speedsInOrder};
-ghost use Rattle.plans.specs.Plans.{Judges, AsksPlan, AsksImage, Decodes};
+ghost use Rattle.plans.specs.Plans.{Judges, AsksPlan, AsksImage};
 
 // The duty of chip 1, or the count of chip 2.
 pub enum Asked {
@@ -65,32 +61,6 @@ pub fn asked_of_plan(plan: Plan, t: u8) -> Asked
     }
 }
 
-// The plan whose curve stands in a body's bytes, in register order. What a short body lacks counts as 0.
-pub fn plan_of_body(chip: Chip, table: u8, body: &[u8]) -> Plan
-    ensures { λ r. ⌜ Decodes chip table (now (body .entry)) r ⌝ }
-{
-    match chip {
-        Chip::Nct7802y => Plan {
-            chip: 1,
-            table,
-            slope: bodies::slope_in(body),
-            steps: NO_STEPS,
-        },
-        Chip::F75373s => Plan {
-            chip: 2,
-            table,
-            slope: NO_SLOPE,
-            steps: bodies::steps_in(body),
-        },
-        Chip::Nct80 => Plan {
-            chip: 3,
-            table,
-            slope: NO_SLOPE,
-            steps: NO_STEPS,
-        },
-    }
-}
-
 // The speed that the curve in an image's fan table asks at a temperature.
 pub fn asked_of_image(chip: u8, table: u8, image: &[u8], t: u8) -> Asked
     ensures { λ r. ⌜ AsksImage chip table (now (image .entry)) t r ⌝ }
@@ -104,7 +74,11 @@ pub fn asked_of_image(chip: u8, table: u8, image: &[u8], t: u8) -> Asked
                     return Asked::Refused(Refusal::NotAnImage);
                 }
                 let at = base as usize;
-                Asked::Speed(curves::speed_of(known, plan_of_body(known, table, &image[at..]), t))
+                Asked::Speed(curves::speed_of(
+                    known,
+                    bodies::plan_of(known, table, &image[at..]),
+                    t,
+                ))
             }
         },
     }

@@ -22,10 +22,11 @@ use Rattle.cards.specs.declared.types.Named.the-variants.{Known}
 use Rattle.cards.specs.Cards.{chipOf, whenKnown, hasTable}
 use Rattle.cards.proofs.Numbers.{chip-known}
 use Rattle.curves.specs.declared.Plan.{Plan}
-use Rattle.plans.specs.Plans.{decoded, askPlanChecks, orderChecks, planChecks}
+use Rattle.bodies.specs.Bodies.{decoded}
+use Rattle.plans.specs.Plans.{askPlanChecks, orderChecks, planChecks}
 use Rattle.records.specs.declared.Found.{Found}
 use Rattle.records.specs.Records.{bodyLength, recordLength, recordOf, encoded, chipIn, tableIn, bodyIn, noPlan, planOf, planIn, wrongMark, bodyChecks, bodyPlanChecks, recordChecks, writeChecks, roomChecks, Refuses, Plans, Reads, Writes}
-use Rattle.records.proofs.Chips.{decoded-chip, decoded-table}
+use Rattle.bodies.proofs.Laws.{decoded-chip, decoded-table}
 
 -- what an answer with a count says of the call
 pub told-of : (checks : List Check) (value n : ℕ) (r : Count) → r ≡ counted.Of n → tellsCount r ≡ told checks value

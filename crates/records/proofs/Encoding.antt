@@ -2,7 +2,7 @@
 -- Assumes nothing.
 use Prim.Native.Nat.{ℕ, _+_, _≤_, _<_}
 use native.Mathlib.Omega.{arith}
-use mathlib.Core.Path.{_≡_, refl, sym, ap, ap₂, _∙_}
+use mathlib.Core.Path.{_≡_, refl, sym, ap, _∙_}
 use mathlib.Core.Bool.{true}
 use mathlib.Core.List.{List, [], _∷_, _++_}
 use lib.ListN.{length, getD, take, length-append}
@@ -15,16 +15,16 @@ use Rattle.cards.specs.Rows.{Table, from, positions}
 use Rattle.cards.specs.Cards.{sheetOf, chipOf, whenKnown, hasTable, tableOf, tableFrom, baseOf}
 use Rattle.cards.proofs.Numbers.{chip-number}
 use Rattle.cards.proofs.Tables.{table-at-base}
-use Rattle.curves.specs.declared.SlopeValues.{SlopeValues}
-use Rattle.curves.specs.declared.StepValues.{StepValues}
 use Rattle.curves.specs.declared.Plan.{Plan}
-use Rattle.curves.specs.Curves.{halves, words}
+use Rattle.curves.specs.Curves.{halves}
 use Rattle.curves.specs.Planned.{planned, bytesAt}
-use Rattle.plans.specs.Plans.{slopeIn, stepsIn, decoded, planChecks}
-use Rattle.curves.proofs.StepLaws.{words-halves, halves-words}
-use Rattle.curves.proofs.Registers.{in-a-row, spelled}
+use Rattle.bodies.specs.Bodies.{body, decoded}
+use Rattle.plans.specs.Plans.{planChecks}
+use Rattle.curves.proofs.StepLaws.{halves-length, halves-words}
+use Rattle.curves.proofs.Registers.{in-a-row}
+use Rattle.bodies.proofs.Laws.{slope-back, steps-back}
 use Rattle.curves.specs.Values.{noSlope, noSteps, Sized}
-use Rattle.records.specs.Records.{body, bodyLength, recordLength, recordOf, encoded, ownOf}
+use Rattle.records.specs.Records.{bodyLength, recordLength, recordOf, encoded, ownOf}
 
 -- "9 bytes for chip 1, 14 for chip 2": as many as each of the chip's tables has registers
 at-base : (chip : Chip) (base : ℕ) → length (positions (tableFrom chip base)) ≡ bodyLength chip
@@ -38,11 +38,6 @@ body-of-table chip table has =
     ap (λ (t : Table). length (positions t)) (table-at-base chip table has) ∙ at-base chip (baseOf chip table)
 
 -- and as many as a plan's curve has bytes
-pub halves-length : (counts : List ℕ) → length (halves counts) ≡ length counts + length counts
-unfolding halves
-halves-length [] = refl
-halves-length (c ∷ cs) = omega (arith, halves-length cs)
-
 pub body-of-plan : (chip : Chip) (plan : Plan) → Sized plan → length (body (planned chip plan)) ≡ bodyLength chip
 body-of-plan Nct7802y plan S =
     omega (
@@ -73,33 +68,7 @@ record-short plan S = by-name (chipOf (plan .chip))
     by-name (Known chip) = omega (arith, record-of-plan chip plan S, length-short chip)
     by-name Unknown = omega arith
 
--- a plan that comes out of a body has its arrays' lengths, however short the body is
-pub decoded-sized : (chip : Chip) (table : ℕ) (rest : List ℕ) → Sized (decoded chip table rest)
-unfolding words
-decoded-sized Nct7802y table rest = record { temperatures = refl; duties = refl; bounds = refl; counts = refl }
-decoded-sized F75373s table rest = record { temperatures = refl; duties = refl; bounds = refl; counts = refl }
-decoded-sized Nct80 table rest = record { temperatures = refl; duties = refl; bounds = refl; counts = refl }
-
--- values that are laid out in register order come back, whatever stands behind them
-slope-back : (values : SlopeValues) (rest : List ℕ) → length (values .temperatures) ≡ 4 → length (values .duties) ≡ 4
-    → slopeIn (((values .temperatures ++ (values .critical ∷ [])) ++ values .duties) ++ rest) ≡ values
-slope-back values rest t d =
-    let undone : List ℕ → List ℕ → SlopeValues = λ ts ds. slopeIn (((ts ++ (values .critical ∷ [])) ++ ds) ++ rest) in
-    let of : List ℕ → List ℕ → SlopeValues = λ ts ds. record { temperatures = ts; critical = values .critical; duties = ds } in
-    let ts = spelled (values .temperatures) 4 t in
-    let ds = spelled (values .duties) 4 d in
-    sym (ap₂ undone ts ds) ∙ ap₂ of ts ds
-
-steps-back : (values : StepValues) (rest : List ℕ) → length (values .bounds) ≡ 4 → length (values .counts) ≡ 5
-    → stepsIn ((values .bounds ++ halves (values .counts)) ++ rest) ≡ values
-steps-back values rest b c =
-    let undone : List ℕ → List ℕ → StepValues = λ bs hs. stepsIn ((bs ++ hs) ++ rest) in
-    let of : List ℕ → List ℕ → StepValues = λ bs cs. record { bounds = bs; counts = cs } in
-    let bs = spelled (values .bounds) 4 b in
-    let hs = spelled (halves (values .counts)) 10 (omega (arith, halves-length (values .counts), c)) in
-    sym (ap₂ undone bs hs) ∙ ap₂ (λ (l h : List ℕ). of l (words h)) bs hs ∙ ap (of (values .bounds)) (words-halves (values .counts))
-
--- so a plan's body is decoded to the plan, with the other chip's values zero
+-- a plan's body is decoded to the plan, with the other chip's values zero
 pub decode-encode : (chip : Chip) (plan : Plan) (rest : List ℕ) → Sized plan → chipOf (plan .chip) ≡ Known chip
     → decoded chip (plan .table) (body (planned chip plan) ++ rest) ≡ ownOf chip plan
 unfolding sheetOf

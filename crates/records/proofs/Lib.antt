@@ -1,5 +1,3 @@
-pub mod Places
-pub mod Chips
 pub mod Answers
 pub mod Unique
 pub mod Encoding

@@ -16,17 +16,14 @@ use Rattle.cards.specs.declared.types.Chip.the-variants.{Nct7802y, F75373s, Nct
 use Rattle.cards.specs.Cards.{chipOf, whenKnown, unknown, noTable}
 use Rattle.curves.specs.declared.Plan.{Plan}
 use Rattle.curves.specs.Values.{noSlope, noSteps}
-use Rattle.curves.specs.Planned.{Curve, planned}
-use Rattle.plans.specs.Plans.{decoded, orderChecks, planChecks}
+use Rattle.curves.specs.Planned.{planned}
+use Rattle.bodies.specs.Bodies.{body, decoded}
+use Rattle.plans.specs.Plans.{orderChecks, planChecks}
 use Rattle.records.specs.declared.Found.{Found}
 
 -- "a two-byte mark 43h 50h before each plan, chip, table"
 abbrev pub header : ℕ → ℕ → List ℕ
 header chip table = 0x43 ∷ 0x50 ∷ chip ∷ table ∷ []
-
--- "then the body in the register order": settings, then speeds
-abbrev pub body : Curve → List ℕ
-body curve = curve .settings ++ curve .speeds
 
 -- "9 bytes for chip 1, 14 for chip 2"
 abbrev pub bodyLength : Chip → ℕ
@@ -38,7 +35,7 @@ bodyLength Nct80 = 0
 abbrev pub recordLength : Chip → ℕ
 recordLength chip = 4 + bodyLength chip
 
--- a plan's record
+-- a plan's record: "then the body in the register order"
 abbrev pub recordOf : Chip → Plan → List ℕ
 recordOf chip plan = header (plan .chip) (plan .table) ++ body (planned chip plan)
 

@@ -1,6 +1,4 @@
 // Plan records: read from bytes, and written to a lent buffer.
-mod layout;
-
 use cards::Chip;
 use cards::Named;
 use cards::Place;
@@ -11,7 +9,8 @@ use refusal::Count;
 use refusal::Outcome;
 use refusal::Refusal;
 ghost use mathlib.Core.Path.{_≡_};
-ghost use Rattle.records.specs.Records.{bodyLength, Plans, Reads, Refuses, Writes};
+ghost use lib.ListN.{getD};
+ghost use Rattle.records.specs.Records.{bodyLength, recordOf, Plans, Reads, Refuses, Writes};
 
 // What is read: the bytes used, and the plan, which is all zeros where the record is refused.
 pub struct Found {
@@ -60,7 +59,7 @@ pub fn plan_from(chip: u8, table: u8, bytes: &[u8]) -> Found
     }
     Found {
         answer: Count::Of(length),
-        plan: plans::plan_of_body(known, table, bytes),
+        plan: bodies::plan_of(known, table, bytes),
     }
 }
 
@@ -89,6 +88,17 @@ pub fn read(bytes: &[u8]) -> Found
     }
 }
 
+// The byte at a place of a plan's record: the mark, chip, table, then the body.
+fn byte_of(chip: Chip, plan: Plan, at: usize) -> u8
+    ensures { λ r. ⌜ r ≡ getD (recordOf chip plan) at 0 ⌝ }
+{
+    let header = [0x43, 0x50, plan.chip, plan.table];
+    if at < 4 {
+        return header[at];
+    }
+    bodies::byte_of(chip, plan, at - 4)
+}
+
 // Writes a plan's record to the front of the buffer, and answers its length.
 pub fn write(plan: Plan, out: &mut [u8]) -> Count
     ensures { λ r. ⌜ Writes plan (now (out .entry)) r (now (out .exit)) ⌝ }
@@ -104,7 +114,7 @@ pub fn write(plan: Plan, out: &mut [u8]) -> Count
         return Count::Refused(Refusal::OutputTooShort);
     }
     for at in 0..length {
-        out[at] = layout::byte_of(chip, plan, at);
+        out[at] = byte_of(chip, plan, at);
     }
     Count::Of(length)
 }

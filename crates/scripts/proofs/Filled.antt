@@ -14,7 +14,7 @@ use Rattle.cards.proofs.Tables.{table-number, table-at-base}
 use Rattle.curves.specs.declared.Plan.{Plan}
 use Rattle.curves.specs.Planned.{planned}
 use Rattle.curves.specs.Values.{Sized}
-use Rattle.records.proofs.Encoding.{halves-length}
+use Rattle.curves.proofs.StepLaws.{halves-length}
 
 pub settings-fill : (chip : Chip) (plan : Plan) → Sized plan → So (hasTable chip (plan .table))
     → length (tableOf chip (plan .table) .settings) ≡ length (planned chip plan .settings)

@@ -12,7 +12,7 @@ use Rattle.cards.specs.Rows.{Table, from}
 use Rattle.cards.proofs.Columns.{run-length, run-at}
 use Rattle.curves.specs.Orders.{fulls}
 use Rattle.curves.specs.Planned.{Curve}
-use Rattle.records.specs.Records.{body}
+use Rattle.bodies.specs.Bodies.{body}
 use Rattle.scripts.specs.Scripts.{Pair, writes, script}
 
 abbrev pub nothing : Pair

@@ -25,7 +25,8 @@ use Rattle.curves.specs.declared.Plan.{Plan}
 use Rattle.curves.specs.Planned.{Curve, planned}
 use Rattle.plans.specs.Plans.{planChecks}
 use Rattle.curves.specs.Values.{Sized}
-use Rattle.records.specs.Records.{header, body, recordOf, encoded, roomChecks, Writes}
+use Rattle.bodies.specs.Bodies.{body}
+use Rattle.records.specs.Records.{header, recordOf, encoded, roomChecks, Writes}
 use Rattle.records.proofs.Encoding.{record-short}
 use Rattle.scripts.specs.declared.making.Layout.{Layout}
 use Rattle.scripts.specs.Scripts.{Pair, fullOf, script, scriptOf, scriptFor}

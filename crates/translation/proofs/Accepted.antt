@@ -17,9 +17,10 @@ use Rattle.cards.specs.declared.types.Named.the-variants.{Known, Unknown}
 use Rattle.cards.specs.Cards.{sheetOf, chipOf, hasTable}
 use Rattle.cards.proofs.Tables.{table-number}
 use Rattle.curves.specs.declared.Plan.{Plan}
-use Rattle.plans.specs.Plans.{decoded, temperaturesOut, speedsOut, planChecks}
+use Rattle.bodies.specs.Bodies.{decoded}
+use Rattle.plans.specs.Plans.{temperaturesOut, speedsOut, planChecks}
 use Rattle.records.specs.Records.{bodyLength, recordLength, recordChecks, chipIn, tableIn, bodyIn, planIn}
-use Rattle.records.proofs.Encoding.{decoded-sized}
+use Rattle.bodies.proofs.Laws.{decoded-sized}
 use Rattle.scripts.specs.Scripts.{scriptFor}
 use Rattle.scripts.proofs.Lengths.{script-of-plan}
 use Rattle.translation.specs.Text.{refusalIn, usedIn}

@@ -36,17 +36,17 @@ returns c =
 cast-at : tie.Need-cast-at
 cast-at c = search needs
 
-sub-plan-of-body : tie.Need-sub-plan-of-body
-sub-plan-of-body c = search needs
+sub-plan-of : tie.Need-sub-plan-of
+sub-plan-of c = search needs
 
-part-plan-of-body-start : tie.Need-part-plan-of-body-start
-part-plan-of-body-start c = search needs
+part-plan-of-start : tie.Need-part-plan-of-start
+part-plan-of-start c = search needs
 
-part-plan-of-body-end : tie.Need-part-plan-of-body-end
-part-plan-of-body-end c = search needs
+part-plan-of-end : tie.Need-part-plan-of-end
+part-plan-of-end c = search needs
 
-plan-of-body-requires : tie.Need-plan-of-body-requires
-plan-of-body-requires c κs = search needs
+plan-of-requires : tie.Need-plan-of-requires
+plan-of-requires c κs = search needs
 
 speed-of-requires : tie.Need-speed-of-requires
 speed-of-requires c κs = search needs
@@ -69,7 +69,7 @@ returns-4 c =
     let known = k .before .before .before .before .known .given .0 .0 in
     let a = k .before .before .before .before .before .before .before .before .args in
     let asked = body-asks known (a .table) (k .base .given .0 .0) (a .image .now) (a .t) (found .0) (found .1) in
-    record { answer = rw (e, found .0, eq-eqb _ _ (i .if1 .left)) (ap (λ (speed : ℕ). (0, speed)) (c .speed-of .ensures .answer ∙ rw (c .before .plan-of-body .ensures .answer) asked)) }
+    record { answer = rw (e, found .0, eq-eqb _ _ (i .if1 .left)) (ap (λ (speed : ℕ). (0, speed)) (c .speed-of .ensures .answer ∙ rw (c .before .plan-of .ensures .answer) asked)) }
 
 pub asked-of-image-spec : {M : Type 1} → statement M
 asked-of-image-spec =
@@ -83,10 +83,10 @@ asked-of-image-spec =
     enum-known-base
     returns
     cast-at
-    sub-plan-of-body
-    part-plan-of-body-start
-    part-plan-of-body-end
-    plan-of-body-requires
+    sub-plan-of
+    part-plan-of-start
+    part-plan-of-end
+    plan-of-requires
     speed-of-requires
     returns-2
     returns-3

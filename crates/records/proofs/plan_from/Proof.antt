@@ -84,15 +84,15 @@ returns-3 c =
     let short : length (bytes b) < bodyLength (chip (known b)) = omega (arith, c .before .if1 .taken, b .body-length .ensures) in
     plan-refused _ _ _ (c .refused3 .ensures) (rw (named (known b), has b, lt-ltb _ _ short))
 
-plan-of-body-requires : tie.Need-plan-of-body-requires
-plan-of-body-requires c κs = search needs
+plan-of-requires : tie.Need-plan-of-requires
+plan-of-requires c κs = search needs
 
 returns-4 : tie.Need-returns-4
 returns-4 c =
     let b = c .before .before in
     let whole : Whole (start (known b) .args .chip) (start (known b) .args .table) (bytes b) =
     record { chip = chip (known b); named = named (known b); has = has b; long = omega (arith, c .before .if1 .left, b .body-length .ensures) } in
-    plan-accepted _ _ _ _ _ whole (b .body-length .ensures) (c .plan-of-body .ensures .answer)
+    plan-accepted _ _ _ _ _ whole (b .body-length .ensures) (c .plan-of .ensures .answer)
 
 pub plan-from-spec : {M : Type 1} → statement M
 plan-from-spec =
@@ -111,5 +111,5 @@ plan-from-spec =
     body-length-requires
     refused-requires-3
     returns-3
-    plan-of-body-requires
+    plan-of-requires
     returns-4)
