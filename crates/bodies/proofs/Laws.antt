@@ -5,10 +5,10 @@ use native.Mathlib.Omega.{arith}
 use mathlib.Core.Path.{_≡_, refl, sym, ap, ap₂, _∙_}
 use mathlib.Core.List.{List, [], _∷_, _++_}
 use lib.ListN.{length}
-use Rattle.cards.specs.declared.Chip.{Chip}
-use Rattle.cards.specs.declared.Chip.the-variants.{Nct7802y, F75373s, Nct80}
-use Rattle.cards.specs.declared.Named.the-variants.{Known}
-use Rattle.cards.specs.Cards.{chipOf}
+use Rattle.cards.specs.declared.types.Chip.{Chip}
+use Rattle.cards.specs.declared.types.Chip.the-variants.{Nct7802y, F75373s, Nct80}
+use Rattle.cards.specs.declared.types.Named.the-variants.{Known}
+use Rattle.cards.specs.Cards.{sheetOf, chipOf}
 use Rattle.curves.specs.declared.SlopeValues.{SlopeValues}
 use Rattle.curves.specs.declared.StepValues.{StepValues}
 use Rattle.curves.specs.Curves.{halves, words}
@@ -18,6 +18,7 @@ use Rattle.curves.proofs.Registers.{spelled}
 use Rattle.bodies.specs.Bodies.{slopeIn, stepsIn, decoded}
 
 pub decoded-chip : (chip : Chip) (table : ℕ) (body : List ℕ) → chipOf (decoded chip table body .chip) ≡ Known chip
+unfolding sheetOf
 decoded-chip Nct7802y table body = refl
 decoded-chip F75373s table body = refl
 decoded-chip Nct80 table body = refl

@@ -4,8 +4,8 @@ use Prim.Native.Nat.{ℕ}
 use mathlib.Core.Path.{_≡_}
 use mathlib.Core.List.{List, _++_}
 use lib.ListN.{getD}
-use Rattle.cards.specs.declared.Chip.{Chip}
-use Rattle.cards.specs.declared.Chip.the-variants.{Nct7802y, F75373s, Nct80}
+use Rattle.cards.specs.declared.types.Chip.{Chip}
+use Rattle.cards.specs.declared.types.Chip.the-variants.{Nct7802y, F75373s, Nct80}
 use Rattle.cards.specs.Rows.{from}
 use Rattle.curves.specs.declared.SlopeValues.{SlopeValues}
 use Rattle.curves.specs.declared.StepValues.{StepValues}

@@ -8,7 +8,7 @@ use Rattle.refusal.specs.declared.Outcome.{Outcome}
 use Rattle.refusal.specs.Refusals.{numberOf}
 use Rattle.refusal.specs.Answers.{tells}
 use Rattle.refusal.specs.Checks.{Check, first, told}
-use Rattle.cards.specs.declared.Chip.{Chip}
+use Rattle.cards.specs.declared.types.Chip.{Chip}
 use Rattle.cards.specs.Rows.{Table}
 use Rattle.cards.specs.Cards.{chipOf, whenKnown, unknown, noTable, notAnImage, tableOf}
 use Rattle.curves.specs.declared.Plan.{Plan}
