@@ -1,4 +1,4 @@
--- "Plans and what they ask": what a plan holds. The values of neither chip, and what the types say of those that code holds.
+-- "Plans and what they ask": what a plan holds. Zero values, and what the types say of those that code holds.
 -- Assumes nothing.
 use Prim.Native.Nat.{ℕ, _<_, _^_}
 use mathlib.Core.Path.{_≡_}
@@ -9,7 +9,7 @@ use Rattle.curves.specs.declared.StepValues.{StepValues}
 use Rattle.curves.specs.declared.Plan.{Plan}
 use Rattle.curves.specs.Orders.{All}
 
--- "those of the other chip are zero in what is read"
+-- the values of a kind of curve that a plan does not have
 abbrev pub noSlope : SlopeValues
 noSlope = record { temperatures = replicate 4 0; critical = 0; duties = replicate 4 0 }
 

@@ -20,7 +20,7 @@ pub struct StepValues {
     pub counts: [u16; 5],
 }
 
-// A plan has room for the values of either chip, and those of the other chip are zero in what is read.
+// A plan has room for the values of either chip.
 pub struct Plan {
     pub chip: u8,
     pub table: u8,
@@ -28,6 +28,7 @@ pub struct Plan {
     pub steps: StepValues,
 }
 
+// "those of the other chip are zero in what is read"
 pub const NO_SLOPE: SlopeValues = SlopeValues {
     temperatures: [0; 4],
     critical: 0,
