@@ -1,4 +1,4 @@
--- A column has a number for each position, that of the position; and a register's masks are what the card's columns hold at its address.
+-- A column has a number for each position, that of the position; and a register's masks are what the card's columns hold at its position.
 -- Assumes nothing.
 use Prim.Native.Nat.{ℕ, zero, suc, _+_, _<_}
 use native.Mathlib.Nat.{add-zero, zero-add, add-suc, suc-add, le-of-suc-le-suc, not-suc-le-zero}
@@ -26,10 +26,10 @@ unfolding column
 column-at n f position h = run-at f 0 n position h ∙ ap f (zero-add position)
 
 -- a card's column of masks
-abbrev pub columnOf : (Row → ℕ) → List Line → List ℕ
-columnOf part lines = column 256 (λ address. part (rowIn lines address))
+abbrev pub columnOf : ℕ → (Row → ℕ) → List Line → List ℕ
+columnOf n part lines = column n (λ position. part (rowIn lines position))
 
-pub masks-of-columns : (lines : List Line) (address : ℕ) → address < 256
-    → masksIn (row (getD (columnOf (λ r. r .writable) lines) address 0) (getD (columnOf (λ r. r .clears) lines) address 0) 0) ≡ masksIn (rowIn lines address)
-masks-of-columns lines address h =
-    rw (column-at 256 (λ a. rowIn lines a .writable) address h, column-at 256 (λ a. rowIn lines a .clears) address h)
+pub masks-of-columns : (n : ℕ) (lines : List Line) (position : ℕ) → position < n
+    → masksIn (row (getD (columnOf n (λ r. r .writable) lines) position 0) (getD (columnOf n (λ r. r .clears) lines) position 0) 0) ≡ masksIn (rowIn lines position)
+masks-of-columns n lines position h =
+    rw (column-at n (λ p. rowIn lines p .writable) position h, column-at n (λ p. rowIn lines p .clears) position h)

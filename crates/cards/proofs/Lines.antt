@@ -43,6 +43,13 @@ between size least (l ∷ ls) t (suc k) h =
     let later = between size (suc (l .0)) ls (r .rest) k (le-of-suc-le-suc h) in
     (omega (arith, r .from, later .0), later .1)
 
+-- behind the image's end there is no register: "both masks 00h and power-on 00h"
+pub row-beyond : (size least : ℕ) (lines : List Line) → So (rising size least lines) → (position : ℕ) → size ≤ position → rowIn lines position ≡ row 0x00 0x00 0x00
+row-beyond size least [] t position h = refl
+row-beyond size least (l ∷ ls) t position h =
+    let r = rises size least l ls t in
+    rw (ne-eqb (l .0) position (λ e. omega (arith, e, r .inside))) (row-beyond size (suc (l .0)) ls (r .rest) position h)
+
 counted : (size least : ℕ) (lines : List Line) → So (rising size least lines) → (k : ℕ) → k < length lines
     → rowIn lines (lineAt lines k .0) ≡ row (lineAt lines k .1) (lineAt lines k .2) (lineAt lines k .3)
 counted size least [] t k h = absurd (not-suc-le-zero h)

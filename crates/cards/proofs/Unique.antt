@@ -12,10 +12,10 @@ use Rattle.cards.specs.Cards.{Names, Finds, PowersOn, Lists, Requires, P
 pub names-unique : {number : ℕ} {r s : Named} → Names number r → Names number s → r ≡ s
 names-unique p q = p .answer ∙ sym (q .answer)
 
-pub finds-unique : {chip : Chip} {address : ℕ} {r s : Masks} → Finds chip address r → Finds chip address s → r ≡ s
+pub finds-unique : {chip : Chip} {position : ℕ} {r s : Masks} → Finds chip position r → Finds chip position s → r ≡ s
 finds-unique p q = p .answer ∙ sym (q .answer)
 
-pub powers-on-unique : {chip : Chip} {address r s : ℕ} → PowersOn chip address r → PowersOn chip address s → r ≡ s
+pub powers-on-unique : {chip : Chip} {position r s : ℕ} → PowersOn chip position r → PowersOn chip position s → r ≡ s
 powers-on-unique p q = p .answer ∙ sym (q .answer)
 
 pub lists-unique : {chip : Chip} {r s : ℕ} → Lists chip r → Lists chip s → r ≡ s

@@ -58,7 +58,7 @@ abbrev pub cardOf : Chip → List Line
 cardOf chip = sheetOf chip .card
 
 unfoldable pub rowOf : Chip → ℕ → Row
-rowOf chip address = rowIn (cardOf chip) address
+rowOf chip position = rowIn (cardOf chip) position
 
 abbrev pub powerOn : Chip → List ℕ
 powerOn chip = powerOnIn (sheetOf chip)
@@ -99,12 +99,12 @@ pub record Names (number : ℕ) (named : Named) : Type 0 where
   pub answer : named ≡ chipOf number
 
 -- what `cards::masks_of` promises
-pub record Finds (chip : Chip) (address : ℕ) (masks : Masks) : Type 0 where
-  pub answer : masks ≡ masksIn (rowOf chip address)
+pub record Finds (chip : Chip) (position : ℕ) (masks : Masks) : Type 0 where
+  pub answer : masks ≡ masksIn (rowOf chip position)
 
 -- what `cards::power_on_of` promises
-pub record PowersOn (chip : Chip) (address byte : ℕ) : Type 0 where
-  pub answer : byte ≡ rowOf chip address .power
+pub record PowersOn (chip : Chip) (position byte : ℕ) : Type 0 where
+  pub answer : byte ≡ rowOf chip position .power
 
 -- what `cards::required_count` promises
 pub record Lists (chip : Chip) (count : ℕ) : Type 0 where

@@ -24,25 +24,25 @@ pub fn chip_of(number: u8) -> Named
     }
 }
 
-// The masks of an address.
-pub fn masks_of(chip: Chip, address: u8) -> Masks
-    ensures { λ r. ⌜ Finds chip address r ⌝ }
+// The masks of a register of the image, and none behind the card's end.
+pub fn masks_of(chip: Chip, position: usize) -> Masks
+    ensures { λ r. ⌜ Finds chip position r ⌝ }
 {
     match chip {
-        Chip::Nct7802y => nct7802y::masks(address),
-        Chip::F75373s => f75373s::masks(address),
-        Chip::Nct80 => nct80::masks(address),
+        Chip::Nct7802y => nct7802y::masks(position),
+        Chip::F75373s => f75373s::masks(position),
+        Chip::Nct80 => nct80::masks(position),
     }
 }
 
-// What an address holds at power-on.
-pub fn power_on_of(chip: Chip, address: u8) -> u8
-    ensures { λ r. ⌜ PowersOn chip address r ⌝ }
+// What a register of the image holds at power-on, and 0 behind the card's end.
+pub fn power_on_of(chip: Chip, position: usize) -> u8
+    ensures { λ r. ⌜ PowersOn chip position r ⌝ }
 {
     match chip {
-        Chip::Nct7802y => nct7802y::power(address),
-        Chip::F75373s => f75373s::power(address),
-        Chip::Nct80 => nct80::power(address),
+        Chip::Nct7802y => nct7802y::power(position),
+        Chip::F75373s => f75373s::power(position),
+        Chip::Nct80 => nct80::power(position),
     }
 }
 

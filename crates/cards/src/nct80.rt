@@ -4,6 +4,7 @@ mod power_on;
 mod writable;
 
 use crate::types::Masks;
+use crate::types::NO_MASKS;
 use clears::CLEARS;
 use power_on::POWER_ON;
 use writable::WRITABLE;
@@ -11,19 +12,25 @@ ghost use mathlib.Core.Path.{_≡_};
 ghost use Rattle.cards.specs.Nct80.{card};
 ghost use Rattle.cards.specs.Rows.{masksIn, rowIn};
 
-pub(crate) fn masks(address: u8) -> Masks
-    ensures { λ r. ⌜ r ≡ masksIn (rowIn card address) ⌝ }
+const SIZE: usize = 256;
+
+pub(crate) fn masks(position: usize) -> Masks
+    ensures { λ r. ⌜ r ≡ masksIn (rowIn card position) ⌝ }
 {
-    let at = address as usize;
+    if SIZE <= position {
+        return NO_MASKS;
+    }
     Masks {
-        writable: WRITABLE[at],
-        clears: CLEARS[at],
+        writable: WRITABLE[position],
+        clears: CLEARS[position],
     }
 }
 
-pub(crate) fn power(address: u8) -> u8
-    ensures { λ r. ⌜ r ≡ rowIn card address .power ⌝ }
+pub(crate) fn power(position: usize) -> u8
+    ensures { λ r. ⌜ r ≡ rowIn card position .power ⌝ }
 {
-    let at = address as usize;
-    POWER_ON[at]
+    if SIZE <= position {
+        return 0x00;
+    }
+    POWER_ON[position]
 }

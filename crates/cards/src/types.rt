@@ -30,6 +30,12 @@ pub enum Place {
     Nowhere,
 }
 
+// Behind the end of a card.
+pub(crate) const NO_MASKS: Masks = Masks {
+    writable: 0x00,
+    clears: 0x00,
+};
+
 // No bit of any register.
 pub(crate) const NOTHING: Required = Required {
     position: 0,

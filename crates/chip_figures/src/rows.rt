@@ -8,12 +8,12 @@ fn column(b: u8) {
 }
 
 fn row(number: u8, chip: Chip, address: u8) {
-    let masks = cards::masks_of(chip, address);
+    let masks = cards::masks_of(chip, address as usize);
     printing::labelled(b"row ", number as u64);
     column(address);
     column(masks.writable);
     column(masks.clears);
-    column(cards::power_on_of(chip, address));
+    column(cards::power_on_of(chip, address as usize));
     printing::line_end();
 }
 

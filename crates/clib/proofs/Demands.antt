@@ -67,8 +67,8 @@ demand-1 =
     record {
       number = λ refusal. record { answer = numberOf refusal; kept = record { answer = refl } };
       chip-of = named-answered;
-      masks-of = λ chip address. record { answer = masksIn (rowOf chip address); kept = record { answer = refl } };
-      power-on-of = λ chip address. record { answer = rowOf chip address .power; kept = record { answer = refl } };
+      masks-of = λ chip position. record { answer = masksIn (rowOf chip position); kept = record { answer = refl } };
+      power-on-of = λ chip position. record { answer = rowOf chip position .power; kept = record { answer = refl } };
       required-count = λ chip. record { answer = length (sheetOf chip .identity); kept = record { answer = refl } };
       required-of = λ chip k. record { answer = requiredIn (sheetOf chip .identity) k; kept = record { answer = refl } };
       table-at = placed-answered;

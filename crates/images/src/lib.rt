@@ -25,8 +25,8 @@ pub fn write(chip: u8, image: &mut [u8], address: u8, byte: u8) -> Outcome
             if image.len() != 256 {
                 return Outcome::Refused(Refusal::NotAnImage);
             }
-            let masks = cards::masks_of(known, address);
             let at = address as usize;
+            let masks = cards::masks_of(known, at);
             let old = image[at];
             image[at] = bytes::stored(masks, old, byte);
             Outcome::Accepted
@@ -55,8 +55,8 @@ fn power_on_image(chip: Chip) -> [u8; 256]
     ensures { λ r. ⌜ r ≡ powerOn chip ⌝ }
 {
     let mut working = [0u8; 256];
-    for address in 0..256 {
-        working[address] = cards::power_on_of(chip, address as u8);
+    for at in 0..256 {
+        working[at] = cards::power_on_of(chip, at);
     }
     working
 }

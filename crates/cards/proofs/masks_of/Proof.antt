@@ -28,15 +28,15 @@ masks-requires-3 c κs = search needs
 
 returns : tie.Need-returns
 unfolding sheetOf rowOf
-returns c = record { answer = c .masks .ensures ∙ ap (λ (chip : Chip). masksIn (rowOf chip (c .before .before .before .args .address))) (sym (c .before .enum-told .given .1)) }
+returns c = record { answer = c .masks .ensures ∙ ap (λ (chip : Chip). masksIn (rowOf chip (c .before .before .before .args .position))) (sym (c .before .enum-told .given .1)) }
 
 returns-2 : tie.Need-returns-2
 unfolding sheetOf rowOf
-returns-2 c = record { answer = c .masks2 .ensures ∙ ap (λ (chip : Chip). masksIn (rowOf chip (c .before .before .before .args .address))) (sym (c .before .enum-told2 .given .1)) }
+returns-2 c = record { answer = c .masks2 .ensures ∙ ap (λ (chip : Chip). masksIn (rowOf chip (c .before .before .before .args .position))) (sym (c .before .enum-told2 .given .1)) }
 
 returns-3 : tie.Need-returns-3
 unfolding sheetOf rowOf
-returns-3 c = record { answer = c .masks3 .ensures ∙ ap (λ (chip : Chip). masksIn (rowOf chip (c .before .before .before .args .address))) (sym (c .before .enum-told3 .given .1)) }
+returns-3 c = record { answer = c .masks3 .ensures ∙ ap (λ (chip : Chip). masksIn (rowOf chip (c .before .before .before .args .position))) (sym (c .before .enum-told3 .given .1)) }
 
 pub masks-of-spec : {M : Type 1} → statement M
 masks-of-spec =

@@ -27,15 +27,15 @@ power-requires-3 c κs = search needs
 
 returns : tie.Need-returns
 unfolding sheetOf rowOf
-returns c = record { answer = c .power .ensures ∙ ap (λ (chip : Chip). rowOf chip (c .before .before .before .args .address) .power) (sym (c .before .enum-told .given .1)) }
+returns c = record { answer = c .power .ensures ∙ ap (λ (chip : Chip). rowOf chip (c .before .before .before .args .position) .power) (sym (c .before .enum-told .given .1)) }
 
 returns-2 : tie.Need-returns-2
 unfolding sheetOf rowOf
-returns-2 c = record { answer = c .power2 .ensures ∙ ap (λ (chip : Chip). rowOf chip (c .before .before .before .args .address) .power) (sym (c .before .enum-told2 .given .1)) }
+returns-2 c = record { answer = c .power2 .ensures ∙ ap (λ (chip : Chip). rowOf chip (c .before .before .before .args .position) .power) (sym (c .before .enum-told2 .given .1)) }
 
 returns-3 : tie.Need-returns-3
 unfolding sheetOf rowOf
-returns-3 c = record { answer = c .power3 .ensures ∙ ap (λ (chip : Chip). rowOf chip (c .before .before .before .args .address) .power) (sym (c .before .enum-told3 .given .1)) }
+returns-3 c = record { answer = c .power3 .ensures ∙ ap (λ (chip : Chip). rowOf chip (c .before .before .before .args .position) .power) (sym (c .before .enum-told3 .given .1)) }
 
 pub power-on-of-spec : {M : Type 1} → statement M
 power-on-of-spec =

@@ -13,16 +13,13 @@ use Rattle.images.proofs.power_on_image.Statement.{statement}
 use Rattle.images.proofs.power_on_image.Tie as tie
 
 abbrev Inv-loop : tie.InvT-loop
-Inv-loop chip working₀ address₀ working address = Filled (λ k. rowOf chip k .power) 256 working address
+Inv-loop chip working₀ at₀ working at = Filled (λ k. rowOf chip k .power) 256 working at
 
 abbrev μ-loop : tie.MeasureT-loop
-μ-loop chip working₀ address₀ working address = 256 - address
+μ-loop chip working₀ at₀ working at = 256 - at
 
 loop-holds : tie.Need-loop-holds Inv-loop μ-loop
 loop-holds c = filled-none _ _ _ refl
-
-cast-power-on-of : tie.Need-cast-power-on-of Inv-loop μ-loop
-cast-power-on-of c = search needs
 
 power-on-of-requires : tie.Need-power-on-of-requires Inv-loop μ-loop
 power-on-of-requires c κs = search needs
@@ -30,8 +27,8 @@ power-on-of-requires c κs = search needs
 array-write-working : tie.Need-array-write-working Inv-loop μ-loop
 array-write-working c = search needs
 
-add-address : tie.Need-add-address Inv-loop μ-loop
-add-address c = search needs
+add-at : tie.Need-add-at Inv-loop μ-loop
+add-at c = search needs
 
 loop-less : tie.Need-loop-less Inv-loop μ-loop
 loop-less c = search needs
@@ -55,10 +52,9 @@ power-on-image-spec =
     Inv-loop
     μ-loop
     loop-holds
-    cast-power-on-of
     power-on-of-requires
     array-write-working
-    add-address
+    add-at
     loop-less
     loop-again
     returns)
