@@ -8,7 +8,7 @@ use mathlib.Core.List.{List, [], _∷_, _++_}
 use borrow.Author.Tests.{eqb-true}
 use lib.Dec.{eqb}
 use lib.IntN.{ℤ, pos, negℤ}
-use lib.ListN.{length, getD, replicate}
+use lib.ListN.{length, replicate}
 use Rattle.refusal.specs.Checks.{first, told, toldOr}
 use Rattle.cards.specs.Cards.{sheetOf, chipOf, whenKnown, tableOf}
 use Rattle.cards.specs.Identity.{confirmed}
@@ -16,6 +16,7 @@ use Rattle.curves.specs.declared.Plan.{Plan}
 use Rattle.curves.specs.Curves as curves
 use Rattle.curves.specs.Planned.{asks}
 use Rattle.plans.specs.Plans.{held, askImageChecks}
+use Rattle.images.specs.Bytes.{position, seen}
 use Rattle.images.specs.Images.{imageChecks}
 use Rattle.identities.specs.Identities.{identityChecks}
 use Rattle.readings.specs.Readings as readings
@@ -71,7 +72,7 @@ ofRecord t plan = packed (t .0) (cond (eqb (t .0) 0) (t .1 + 256 * plan .chip + 
 
 -- the number that a call's contract leaves
 abbrev answer : Call → ℕ
-answer (read chip image address) = packs (told (imageChecks chip image) (getD image address 0))
+answer (read chip image address) = packs (told (imageChecks chip image) (whenKnown (chipOf chip) (λ c. seen c address image) 0))
 answer (identity chip image) = packed (first (identityChecks chip image)) 0
 answer (steps width high low) = ofSteps (toldOr (pos 0) (stepsChecks width) (readings.stepsAt width high low))
 answer (bytes width n) = ofBytes (toldOr (0, 0) (bytesChecks width n) (readings.bytesAt width n))
@@ -201,5 +202,5 @@ figures =
     ∷ []
 
 pub figures-hold : AllHold figures
-unfolding sheetOf agree figures factsOf confirmed curves.words curves.slope curves.steps textOf endLine decimal
+unfolding sheetOf agree figures factsOf position confirmed curves.words curves.slope curves.steps textOf endLine decimal
 figures-hold = each figures refl

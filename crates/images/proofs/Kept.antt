@@ -21,7 +21,7 @@ use Rattle.cards.specs.Cards.{sheetOf, rowOf, powerOn}
 use Rattle.cards.specs.Identity.{allHold, agrees, confirmed}
 use Rattle.cards.proofs.Every.{every, both}
 use Rattle.cards.proofs.Sound.{fixed, lasting, sound-sheet}
-use Rattle.images.specs.Bytes.{storedBit, storedBits, stored, storedAt, written}
+use Rattle.images.specs.Bytes.{storedBit, storedBits, stored, storedAt, placed, position, written}
 use Rattle.images.proofs.Digits.{bit, digit}
 use Rattle.images.proofs.Laws.{storedAt-other}
 
@@ -135,9 +135,14 @@ agrees-kept : (sheet : Sheet) (position byte : ℕ) (image : List ℕ) (rs : Lis
 agrees-kept sheet position byte image [] t = refl
 agrees-kept sheet position byte image (r ∷ rs) t = kept sheet position byte image (r ∷ rs) t
 
--- no write changes what identity sees
+-- no write changes what identity sees, at any position ..
+pub placed-keeps-identity : (chip : Chip) (position byte : ℕ) (image : List ℕ)
+    → confirmed chip (placed chip position byte image) ≡ confirmed chip image
+unfolding confirmed rowOf
+placed-keeps-identity chip position byte image =
+    agrees-kept (sheetOf chip) position byte image (sheetOf chip .identity) (sound-sheet chip .identity)
+
+-- .. and so wherever it lands
 pub write-keeps-identity : (chip : Chip) (address byte : ℕ) (image : List ℕ)
     → confirmed chip (written chip address byte image) ≡ confirmed chip image
-unfolding confirmed rowOf
-write-keeps-identity chip address byte image =
-    agrees-kept (sheetOf chip) address byte image (sheetOf chip .identity) (sound-sheet chip .identity)
+write-keeps-identity chip address byte image = placed-keeps-identity chip (position chip image address) byte image

@@ -4,7 +4,7 @@
 use Prim.Native.Nat.{ℕ, zero, suc, _-_, _/_, _%_, _^_, _<_}
 use native.Mathlib.Nat.{pow-suc}
 use native.Mathlib.Omega.{arith}
-use mathlib.Core.Path.{_≡_, sym, ap, _∙_}
+use mathlib.Core.Path.{_≡_, refl, sym, ap, _∙_}
 use mathlib.Core.List.{List}
 use borrow.Author.Tests.{eq-eqb}
 use lib.Arith.{lt-one}
@@ -16,7 +16,7 @@ use Rattle.cards.specs.declared.types.Chip.{Chip}
 use Rattle.cards.specs.declared.types.Named.the-variants.{Known}
 use Rattle.cards.specs.Rows.{Row}
 use Rattle.cards.specs.Cards.{chipOf, rowOf}
-use Rattle.images.specs.Bytes.{storedBits, stored, storedAt}
+use Rattle.images.specs.Bytes.{storedBits, stored, storedAt, position, seen}
 use Rattle.images.specs.Images.{Writes}
 
 -- the image keeps its length
@@ -51,6 +51,11 @@ unfolding storedAt
 storedAt-full row position byte image e h inside =
     getD-set-same image position (stored row (getD image position 0) byte) 0 inside ∙ stored-full row (getD image position 0) byte e h
 
+-- Where an access lands. This alone opens `position`: what lies above goes by this law, or by positions.
+pub lands : (chip : Chip) (image : List ℕ) (address : ℕ) → position chip image address ≡ address
+unfolding position
+lands chip image address = refl
+
 -- no bit of either mask: every bit is the old one
 none-writable : (n o x : ℕ) → o < 2 ^ n → storedBits n 0 0 o x ≡ o
 none-writable zero o x h = sym (lt-one h)
@@ -73,8 +78,9 @@ storedAt-closed row position byte image e f h =
 -- "A write to a row without masks is accepted and changes nothing."
 pub write-closed : (number : ℕ) (chip : Chip) (address byte : ℕ) (old : List ℕ) {r : Outcome} {new : List ℕ}
     → chipOf number ≡ Known chip → length old ≡ 256
-    → rowOf chip address .writable ≡ 0 → rowOf chip address .clears ≡ 0 → getD old address 0 < 2 ^ 8
+    → rowOf chip (position chip old address) .writable ≡ 0 → rowOf chip (position chip old address) .clears ≡ 0 → seen chip address old < 2 ^ 8
     → Writes number old address byte r new → (tells r ≡ 0) × (new ≡ old)
 write-closed number chip address byte old named long e f h p =
     let size = eq-eqb (length old) 256 long in
-    (p .answer ∙ simp (named, size), p .bytes ∙ simp (named, size) (storedAt-closed (rowOf chip address) address byte old e f h))
+    let at = position chip old address in
+    (p .answer ∙ simp (named, size), p .bytes ∙ simp (named, size) (storedAt-closed (rowOf chip at) at byte old e f h))

@@ -26,6 +26,18 @@ stored row old new = storedBits 8 (row .writable) (row .clears) old new
 unfoldable pub storedAt : Row → ℕ → ℕ → List ℕ → List ℕ
 storedAt row position byte image = set image position (stored row (getD image position 0) byte)
 
--- Where a bus write lands: the position is the address. Chip 1: "its image is bank 0, which counts as selected whatever 00h holds".
+-- .. and so by a chip's card
+abbrev pub placed : Chip → ℕ → ℕ → List ℕ → List ℕ
+placed chip position byte image = storedAt (rowOf chip position) position byte image
+
+-- Where a bus access lands: the position is the address. Chip 1: "its image is bank 0, which counts as selected whatever 00h holds".
+unfoldable pub position : Chip → List ℕ → ℕ → ℕ
+position chip image address = address
+
+-- a write on the bus ..
 abbrev pub written : Chip → ℕ → ℕ → List ℕ → List ℕ
-written chip address byte image = storedAt (rowOf chip address) address byte image
+written chip address byte image = placed chip (position chip image address) byte image
+
+-- .. and a read
+abbrev pub seen : Chip → ℕ → List ℕ → ℕ
+seen chip address image = getD image (position chip image address) 0

@@ -3,7 +3,6 @@
 use Prim.Native.Nat.{ℕ}
 use mathlib.Core.Path.{_≡_}
 use mathlib.Core.List.{List, [], _∷_}
-use lib.ListN.{getD}
 use Rattle.refusal.specs.declared.Outcome.{Outcome}
 use Rattle.refusal.specs.Refusals.{numberOf}
 use Rattle.refusal.specs.Answers.{tells}
@@ -11,7 +10,7 @@ use Rattle.refusal.specs.Checks.{Check, first, told, left}
 use Rattle.cards.specs.Cards.{chipOf, whenKnown, unknown, notAnImage, powerOn}
 use Rattle.images.specs.declared.ByteRead.{ByteRead}
 use Rattle.images.specs.declared.ByteRead.the-variants as byteRead
-use Rattle.images.specs.Bytes.{written}
+use Rattle.images.specs.Bytes.{written, seen}
 
 -- the paper's number and the byte of an answer
 abbrev pub tellsByte : ByteRead → ℕ × ℕ
@@ -29,7 +28,7 @@ pub record Writes (chip : ℕ) (old : List ℕ) (address byte : ℕ) (r : Outcom
 
 -- what `images::read` promises. The image is only read, so it holds what it held.
 pub record Reads (chip : ℕ) (image : List ℕ) (address : ℕ) (r : ByteRead) : Type 0 where
-  pub answer : tellsByte r ≡ told (imageChecks chip image) (getD image address 0)
+  pub answer : tellsByte r ≡ told (imageChecks chip image) (whenKnown (chipOf chip) (λ c. seen c address image) 0)
 
 -- what `images::reset` promises
 pub record Resets (chip : ℕ) (old : List ℕ) (r : Outcome) (new : List ℕ) : Type 0 where

@@ -1,4 +1,5 @@
 // A register image of a chip, lent by the caller: written, read and reset.
+mod bus;
 mod bytes;
 
 use cards::Chip;
@@ -25,10 +26,7 @@ pub fn write(chip: u8, image: &mut [u8], address: u8, byte: u8) -> Outcome
             if image.len() != 256 {
                 return Outcome::Refused(Refusal::NotAnImage);
             }
-            let at = address as usize;
-            let masks = cards::masks_of(known, at);
-            let old = image[at];
-            image[at] = bytes::stored(masks, old, byte);
+            bus::store(known, image, address, byte);
             Outcome::Accepted
         }
     }
@@ -40,12 +38,11 @@ pub fn read(chip: u8, image: &[u8], address: u8) -> ByteRead
 {
     match cards::chip_of(chip) {
         Named::Unknown => ByteRead::Refused(Refusal::NoSuchChip),
-        Named::Known(_) => {
+        Named::Known(known) => {
             if image.len() != 256 {
                 return ByteRead::Refused(Refusal::NotAnImage);
             }
-            let at = address as usize;
-            ByteRead::Byte(image[at])
+            ByteRead::Byte(bus::load(known, image, address))
         }
     }
 }

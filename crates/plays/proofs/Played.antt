@@ -1,4 +1,4 @@
--- Played on an image through the cards, a script's writes do what they do to a memory: each goes to a fan table's register, all of whose bits are
+-- Played on an image through the cards, a script's writes do what they do to a memory: each lands at a fan table's register, all of whose bits are
 -- writable. A table's registers stand apart, so a script moves no other byte.
 -- Assumes nothing.
 use Prim.Native.Nat.{ℕ, zero, suc, _<_, _^_, suc-le-suc}
@@ -14,8 +14,8 @@ use Rattle.cards.specs.declared.types.Chip.{Chip}
 use Rattle.cards.specs.Rows.{positions}
 use Rattle.cards.specs.Cards.{rowOf, hasTable, tableOf}
 use Rattle.cards.proofs.Tables.{table-mask, table-within, table-distinct}
-use Rattle.images.specs.Bytes.{written}
-use Rattle.images.proofs.Laws.{storedAt-length, storedAt-other, storedAt-full}
+use Rattle.images.specs.Bytes.{placed, written}
+use Rattle.images.proofs.Laws.{lands, storedAt-length, storedAt-other, storedAt-full}
 use Rattle.curves.specs.Orders.{All}
 use Rattle.curves.specs.Values.{Within}
 use Rattle.scripts.specs.Scripts.{Pair, writes}
@@ -39,16 +39,31 @@ abbrev pub AllWhole : Chip → List Pair → Type 0
 AllWhole chip [] = Unit {0}
 AllWhole chip (w ∷ ws) = Whole chip w × AllWhole chip ws
 
-pub played-length : (chip : Chip) (ws : List Pair) (image : List ℕ) → length (played chip ws image) ≡ length image
-played-length chip [] image = refl
-played-length chip (w ∷ ws) image =
-    played-length chip ws (written chip (w .0) (w .1) image) ∙ storedAt-length (rowOf chip (w .0)) (w .0) (w .1) image
+-- an image after some writes by position
+abbrev laid : Chip → List Pair → List ℕ → List ℕ
+laid chip [] image = image
+laid chip (w ∷ ws) image = laid chip ws (placed chip (w .0) (w .1) image)
 
-written-put : (chip : Chip) (w : Pair) (image : List ℕ) → Whole chip w → length image ≡ 256
-    → bytesOf (written chip (w .0) (w .1) image) ≡ put (bytesOf image) w
-written-put chip w image h e = λ i q. at-each q (eqb q (w .0)) refl i
+-- writes on the bus are writes by position
+played-laid : (chip : Chip) (ws : List Pair) (image : List ℕ) → played chip ws image ≡ laid chip ws image
+played-laid chip [] image = refl
+played-laid chip (w ∷ ws) image =
+    played-laid chip ws (written chip (w .0) (w .1) image)
+    ∙ ap (λ (position : ℕ). laid chip ws (placed chip position (w .1) image)) (lands chip image (w .0))
+
+laid-length : (chip : Chip) (ws : List Pair) (image : List ℕ) → length (laid chip ws image) ≡ length image
+laid-length chip [] image = refl
+laid-length chip (w ∷ ws) image =
+    laid-length chip ws (placed chip (w .0) (w .1) image) ∙ storedAt-length (rowOf chip (w .0)) (w .0) (w .1) image
+
+pub played-length : (chip : Chip) (ws : List Pair) (image : List ℕ) → length (played chip ws image) ≡ length image
+played-length chip ws image = ap length (played-laid chip ws image) ∙ laid-length chip ws image
+
+placed-put : (chip : Chip) (w : Pair) (image : List ℕ) → Whole chip w → length image ≡ 256
+    → bytesOf (placed chip (w .0) (w .1) image) ≡ put (bytesOf image) w
+placed-put chip w image h e = λ i q. at-each q (eqb q (w .0)) refl i
   where
-    at-each : (q : ℕ) (there : Bool) → eqb q (w .0) ≡ there → getD (written chip (w .0) (w .1) image) q 0 ≡ put (bytesOf image) w q
+    at-each : (q : ℕ) (there : Bool) → eqb q (w .0) ≡ there → getD (placed chip (w .0) (w .1) image) q 0 ≡ put (bytesOf image) w q
     at-each q true t =
         let same = eqb-true q (w .0) t in
         rw same
@@ -59,12 +74,16 @@ written-put chip w image h e = λ i q. at-each q (eqb q (w .0)) refl i
         storedAt-other (rowOf chip (w .0)) (w .0) (w .1) image q other
         ∙ sym (put-elsewhere (bytesOf image) (w .0) (w .1) q other)
 
+laid-puts : (chip : Chip) (ws : List Pair) (image : List ℕ) → AllWhole chip ws → length image ≡ 256
+    → bytesOf (laid chip ws image) ≡ puts (bytesOf image) ws
+laid-puts chip [] image h e = refl
+laid-puts chip (w ∷ ws) image h e =
+    laid-puts chip ws (placed chip (w .0) (w .1) image) (h .1) (storedAt-length (rowOf chip (w .0)) (w .0) (w .1) image ∙ e)
+    ∙ ap (λ (m : Memory). puts m ws) (placed-put chip w image (h .0) e)
+
 pub played-puts : (chip : Chip) (ws : List Pair) (image : List ℕ) → AllWhole chip ws → length image ≡ 256
     → bytesOf (played chip ws image) ≡ puts (bytesOf image) ws
-played-puts chip [] image h e = refl
-played-puts chip (w ∷ ws) image h e =
-    played-puts chip ws (written chip (w .0) (w .1) image) (h .1) (storedAt-length (rowOf chip (w .0)) (w .0) (w .1) image ∙ e)
-    ∙ ap (λ (m : Memory). puts m ws) (written-put chip w image (h .0) e)
+played-puts chip ws image h e = ap bytesOf (played-laid chip ws image) ∙ laid-puts chip ws image h e
 
 pub whole-take : (chip : Chip) (k : ℕ) (ws : List Pair) → AllWhole chip ws → AllWhole chip (take k ws)
 whole-take chip zero ws h = tt

@@ -12,24 +12,25 @@ chip-of-requires c κs = search needs
 enum-told : tie.Need-enum-told
 enum-told c = search needs
 
-enum-told-2 : tie.Need-enum-told-2
-enum-told-2 c = search needs
+enum-known-known : tie.Need-enum-known-known
+enum-known-known c = search needs
 
 returns : tie.Need-returns
 returns c =
-    let e = sym (c .before .before .before .chip-of .ensures .answer) ∙ c .before .enum-told2 .given .1 in
+    let e = sym (c .before .before .before .before .chip-of .ensures .answer) ∙ c .before .before .known .given .1 in
     record { answer = simp (e, ne-eqb _ _ (c .if1 .taken)) }
 
-shared-slice-read-t12 : tie.Need-shared-slice-read-t12
-shared-slice-read-t12 c = search needs
+load-requires : tie.Need-load-requires
+load-requires c κs = search needs
 
 returns-2 : tie.Need-returns-2
 returns-2 c = record { answer = simp (sym (c .before .before .chip-of .ensures .answer) ∙ c .enum-told .given .1) }
 
 returns-3 : tie.Need-returns-3
 returns-3 c =
-    let e = sym (c .before .before .before .before .chip-of .ensures .answer) ∙ c .before .before .enum-told2 .given .1 in
-    record { answer = simp (e, eq-eqb _ _ (c .before .if1 .left)) }
+    let k = c .before in
+    let e = sym (k .before .before .before .before .chip-of .ensures .answer) ∙ k .before .before .known .given .1 in
+    record { answer = simp (e, eq-eqb _ _ (k .if1 .left), c .load .ensures) }
 
 pub read-spec : {M : Type 1} → statement M
 read-spec =
@@ -37,8 +38,8 @@ read-spec =
     (tie.spec
     chip-of-requires
     enum-told
-    enum-told-2
+    enum-known-known
     returns
-    shared-slice-read-t12
+    load-requires
     returns-2
     returns-3)
