@@ -1,10 +1,10 @@
 -- A column has a number for each position, that of the position; and a register's masks are what the card's columns hold at its position.
 -- Assumes nothing.
-use Prim.Native.Nat.{ℕ, zero, suc, _+_, _<_}
+use Prim.Native.Nat.{ℕ, zero, suc, _+_, _≤_, _<_}
 use native.Mathlib.Nat.{add-zero, zero-add, add-suc, suc-add, le-of-suc-le-suc, not-suc-le-zero}
 use mathlib.Core.Path.{_≡_, refl, sym, ap, _∙_}
-use mathlib.Core.List.{List}
-use lib.ListN.{length, getD}
+use mathlib.Core.List.{List, _∷_}
+use lib.ListN.{length, getD, take}
 use Rattle.cards.specs.Rows.{Line, Row, row, masksIn, rowIn, run, column}
 
 pub run-length : (f : ℕ → ℕ) (first n : ℕ) → length (run f first n) ≡ n
@@ -24,6 +24,16 @@ column-length n f = run-length f 0 n
 pub column-at : (n : ℕ) (f : ℕ → ℕ) (position : ℕ) → position < n → getD (column n f) position 0 ≡ f position
 unfolding column
 column-at n f position h = run-at f 0 n position h ∙ ap f (zero-add position)
+
+run-front : (f : ℕ → ℕ) (first m n : ℕ) → n ≤ m → take n (run f first m) ≡ run f first n
+run-front f first m zero h = refl
+run-front f first zero (suc n) h = absurd (not-suc-le-zero h)
+run-front f first (suc m) (suc n) h = ap (λ (l : List ℕ). f first ∷ l) (run-front f (suc first) m n (le-of-suc-le-suc h))
+
+-- the front of a column is a shorter one
+pub column-front : (m n : ℕ) (f : ℕ → ℕ) → n ≤ m → take n (column m f) ≡ column n f
+unfolding column
+column-front m n f h = run-front f 0 m n h
 
 -- a card's column of masks
 abbrev pub columnOf : ℕ → (Row → ℕ) → List Line → List ℕ

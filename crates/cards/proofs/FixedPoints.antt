@@ -1,4 +1,4 @@
--- "Fixed points for review", as one list under one claim: each card has the rows that the rules paper names.
+-- "Fixed points for review", as one list under one claim: each card has the rows that the rules paper names, and each image its bytes.
 -- Assumes nothing.
 use Prim.Native.Nat.{ℕ}
 use mathlib.Core.Path.{refl}
@@ -8,12 +8,12 @@ use lib.Dec.{eqb}
 use Rattle.cards.specs.declared.types.Chip.{Chip}
 use Rattle.cards.specs.declared.types.Chip.the-variants.{Nct7802y, F75373s, Nct80}
 use Rattle.cards.specs.Rows.{Table}
-use Rattle.cards.specs.Cards.{sheetOf, rowOf, tablesOf}
+use Rattle.cards.specs.Cards.{sheetOf, sizeOf, rowOf, tablesOf}
 use Rattle.cards.specs.Nct7802y as nct7802y
 use Rattle.cards.specs.F75373s as f75373s
 use Rattle.cards.specs.Nct80 as nct80
 
--- a number of a row that the paper gives: what the card says, and what the paper says
+-- a number that the paper gives: what the page says, and what the paper says
 abbrev pub Point : Type 0
 Point = ℕ × ℕ
 
@@ -37,8 +37,10 @@ tableMasks chip (t ∷ ts) = masks chip (t .settings ++ t .speeds) ++ tableMasks
 
 unfoldable pub points : List Point
 points =
+    -- refusal 8: "a register image is not 256 bytes long"
+    (sizeOf Nct7802y, 256) ∷ (sizeOf F75373s, 256) ∷ (sizeOf Nct80, 256)
     -- "chip 1, 54h and 56h mask 3Fh, power-on 3Fh; 55h and 57h mask 3Fh, power-on 00h"
-    (writable Nct7802y 0x54, 0x3F) ∷ (power Nct7802y 0x54, 0x3F) ∷ (writable Nct7802y 0x56, 0x3F) ∷ (power Nct7802y 0x56, 0x3F)
+    ∷ (writable Nct7802y 0x54, 0x3F) ∷ (power Nct7802y 0x54, 0x3F) ∷ (writable Nct7802y 0x56, 0x3F) ∷ (power Nct7802y 0x56, 0x3F)
     ∷ (writable Nct7802y 0x55, 0x3F) ∷ (power Nct7802y 0x55, 0x00) ∷ (writable Nct7802y 0x57, 0x3F) ∷ (power Nct7802y 0x57, 0x00)
     -- "A3h to A8h power-on 37h, 3Ch, 8Ch, AAh, C8h, E6h"
     ∷ (power Nct7802y 0xA3, 0x37) ∷ (power Nct7802y 0xA4, 0x3C) ∷ (power Nct7802y 0xA5, 0x8C)

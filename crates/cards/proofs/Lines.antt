@@ -13,7 +13,7 @@ use lib.ListN.{length, getD}
 use Rattle.cards.specs.declared.types.Chip.{Chip}
 use Rattle.cards.specs.Rows.{Line, row, rowIn}
 use Rattle.cards.specs.Sheets.{Sheet}
-use Rattle.cards.specs.Cards.{sheetOf, cardOf, rowOf}
+use Rattle.cards.specs.Cards.{sheetOf, cardOf, rowOf, sizeOf}
 use Rattle.cards.proofs.Every.{both}
 use Rattle.cards.proofs.Sound.{rising, Sound, sound-sheet}
 
@@ -68,9 +68,9 @@ module _ (sheet : Sheet) (S : Sound sheet) (k : ℕ) (there : k < length (sheet 
   sheet-counts = counted (sheet .size) 0x00 (sheet .card) (S .lines) k there
 
 module _ (chip : Chip) (k : ℕ) (there : k < length (cardOf chip)) where
-  -- a card's line is one of "the 256 addresses"
-  pub line-inside : lineAt (cardOf chip) k .0 < 256
-  line-inside = omega (arith, sheet-inside (sheetOf chip) (sound-sheet chip) k there, sound-sheet chip .size)
+  -- a card's line is a register of the image
+  pub line-inside : lineAt (cardOf chip) k .0 < sizeOf chip
+  line-inside = sheet-inside (sheetOf chip) (sound-sheet chip) k there
 
   -- and what it says is the row of its address
   pub line-counts : rowOf chip (lineAt (cardOf chip) k .0) ≡ row (lineAt (cardOf chip) k .1) (lineAt (cardOf chip) k .2) (lineAt (cardOf chip) k .3)

@@ -13,7 +13,7 @@ use Rattle.cards.specs.declared.types.Place.{Place}
 use Rattle.cards.specs.declared.types.Place.the-variants.{At, Nowhere}
 use Rattle.cards.specs.Rows.{Table, positions, rowIn, from, inARow}
 use Rattle.cards.specs.Sheets.{Sheet, hasTableIn, tableIn}
-use Rattle.cards.specs.Cards.{sheetOf, rowOf, tablesOf, hasTable, tableOf, tableFrom, baseOf, Places}
+use Rattle.cards.specs.Cards.{sheetOf, sizeOf, rowOf, tablesOf, hasTable, tableOf, tableFrom, baseOf, Places}
 use Rattle.cards.proofs.Every.{every, both, of-every, distinct, apart}
 use Rattle.cards.proofs.Sound.{free, separate, consecutive, alike, Sound, sound-sheet}
 
@@ -96,8 +96,8 @@ module _ (chip : Chip) (number : ℕ) (has : So (hasTable chip number)) where
   unfolding rowOf
   table-mask k h = sheet-mask (sheetOf chip) (sound-sheet chip) number has k h
 
-  pub table-within : (k : ℕ) → k < length (positions (tableOf chip number)) → getD (positions (tableOf chip number)) k 0 < 256
-  table-within k h = omega (arith, sheet-within (sheetOf chip) (sound-sheet chip) number has k h, sound-sheet chip .size)
+  pub table-within : (k : ℕ) → k < length (positions (tableOf chip number)) → getD (positions (tableOf chip number)) k 0 < sizeOf chip
+  table-within k h = sheet-within (sheetOf chip) (sound-sheet chip) number has k h
 
   -- no two registers of a table share a position
   pub table-distinct : (j k : ℕ) → j < length (positions (tableOf chip number)) → k < length (positions (tableOf chip number))

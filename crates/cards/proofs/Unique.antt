@@ -7,7 +7,8 @@ use Rattle.cards.specs.declared.types.Named.{Named}
 use Rattle.cards.specs.declared.types.Place.{Place}
 use Rattle.cards.specs.declared.types.Masks.{Masks}
 use Rattle.cards.specs.declared.types.Required.{Required}
-use Rattle.cards.specs.Cards.{Names, Finds, PowersOn, Lists, Requires, Places}
+use Rattle.cards.specs.declared.types.Sizes.{Sizes}
+use Rattle.cards.specs.Cards.{Names, Finds, PowersOn, Measures, Requires, Places}
 
 pub names-unique : {number : ℕ} {r s : Named} → Names number r → Names number s → r ≡ s
 names-unique p q = p .answer ∙ sym (q .answer)
@@ -18,8 +19,8 @@ finds-unique p q = p .answer ∙ sym (q .answer)
 pub powers-on-unique : {chip : Chip} {position r s : ℕ} → PowersOn chip position r → PowersOn chip position s → r ≡ s
 powers-on-unique p q = p .answer ∙ sym (q .answer)
 
-pub lists-unique : {chip : Chip} {r s : ℕ} → Lists chip r → Lists chip s → r ≡ s
-lists-unique p q = p .answer ∙ sym (q .answer)
+pub measures-unique : {chip : Chip} {r s : Sizes} → Measures chip r → Measures chip s → r ≡ s
+measures-unique p q = p .answer ∙ sym (q .answer)
 
 pub requires-unique : {chip : Chip} {k : ℕ} {r s : Required} → Requires chip k r → Requires chip k s → r ≡ s
 requires-unique p q = p .answer ∙ sym (q .answer)

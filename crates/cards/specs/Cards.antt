@@ -12,10 +12,11 @@ use Rattle.cards.specs.declared.types.Named.{Named}
 use Rattle.cards.specs.declared.types.Named.the-variants.{Known, Unknown}
 use Rattle.cards.specs.declared.types.Masks.{Masks}
 use Rattle.cards.specs.declared.types.Required.{Required}
+use Rattle.cards.specs.declared.types.Sizes.{Sizes}
 use Rattle.cards.specs.declared.types.Place.{Place}
 use Rattle.cards.specs.declared.types.Place.the-variants.{At, Nowhere}
 use Rattle.cards.specs.Rows.{Line, Row, Table, inARow, masksIn, requiredIn, rowIn}
-use Rattle.cards.specs.Sheets.{Sheet, powerOnIn, hasTableIn, tableIn}
+use Rattle.cards.specs.Sheets.{Sheet, sizesIn, powerOnIn, hasTableIn, tableIn}
 use Rattle.cards.specs.Nct7802y as nct7802y
 use Rattle.cards.specs.F75373s as f75373s
 use Rattle.cards.specs.Nct80 as nct80
@@ -90,9 +91,16 @@ abbrev pub tellsPlace : Place → ℕ × ℕ
 tellsPlace (At base) = (0, base)
 tellsPlace Nowhere = (4, 0)
 
--- refusal 8: "a register image is not 256 bytes long"
-abbrev pub notAnImage : List ℕ → Bool
-notAnImage image = not (eqb (length image) 256)
+-- how many bytes a chip's image has
+abbrev pub sizeOf : Chip → ℕ
+sizeOf chip = sheetOf chip .size
+
+-- refusal 8: "a register image is not 256 bytes long", as each of the chips has it; a number that names no chip has been refused 3 before
+abbrev pub notOfSize : ℕ → ℕ → Bool
+notOfSize chip size = not (eqb size (whenKnown (chipOf chip) sizeOf 0))
+
+abbrev pub notAnImage : ℕ → List ℕ → Bool
+notAnImage chip image = notOfSize chip (length image)
 
 -- what `cards::chip_of` promises
 pub record Names (number : ℕ) (named : Named) : Type 0 where
@@ -106,9 +114,9 @@ pub record Finds (chip : Chip) (position : ℕ) (masks : Masks) : Type 0 where
 pub record PowersOn (chip : Chip) (position byte : ℕ) : Type 0 where
   pub answer : byte ≡ rowOf chip position .power
 
--- what `cards::required_count` promises
-pub record Lists (chip : Chip) (count : ℕ) : Type 0 where
-  pub answer : count ≡ length (sheetOf chip .identity)
+-- what `cards::sizes_of` promises
+pub record Measures (chip : Chip) (sizes : Sizes) : Type 0 where
+  pub answer : sizes ≡ sizesIn (sheetOf chip)
 
 -- what `cards::required_of` promises
 pub record Requires (chip : Chip) (k : ℕ) (required : Required) : Type 0 where

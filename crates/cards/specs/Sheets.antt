@@ -6,6 +6,7 @@ use mathlib.Core.List.{List, []}
 use lib.Dec.{leb}
 use lib.ListN.{length, getD}
 use Rattle.cards.specs.declared.types.Required.{Required}
+use Rattle.cards.specs.declared.types.Sizes.{Sizes}
 use Rattle.cards.specs.Rows.{Line, Table, Reading, rowIn, column}
 
 pub record Sheet : Type 0 where
@@ -20,6 +21,10 @@ pub record Sheet : Type 0 where
   pub tables : List Table
   -- where its temperatures stand, as far as the rules paper says
   pub temperatures : List Reading
+
+-- what is counted of a chip
+abbrev pub sizesIn : Sheet → Sizes
+sizesIn sheet = record { image = sheet .size; identity = length (sheet .identity) }
 
 -- "Reset fills the image with the power-on column."
 unfoldable pub powerOnIn : Sheet → List ℕ

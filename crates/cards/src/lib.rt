@@ -10,7 +10,8 @@ use types::NOTHING;
 pub use types::Named;
 pub use types::Place;
 pub use types::Required;
-ghost use Rattle.cards.specs.Cards.{Names, Finds, PowersOn, Lists, Requires, Places};
+pub use types::Sizes;
+ghost use Rattle.cards.specs.Cards.{Names, Finds, PowersOn, Measures, Requires, Places};
 
 // The chip of a chip number, and none for every other number.
 pub fn chip_of(number: u8) -> Named
@@ -46,18 +47,18 @@ pub fn power_on_of(chip: Chip, position: usize) -> u8
     }
 }
 
-// How many registers the chip's identity looks at. Where there are none, nothing is confirmed.
-pub fn required_count(chip: Chip) -> usize
-    ensures { λ r. ⌜ Lists chip r ⌝ }
+// How long the chip's image and its identity are. Where identity looks at no register, nothing is confirmed.
+pub fn sizes_of(chip: Chip) -> Sizes
+    ensures { λ r. ⌜ Measures chip r ⌝ }
 {
     match chip {
-        Chip::Nct7802y => nct7802y::REQUIRED,
-        Chip::F75373s => f75373s::REQUIRED,
-        Chip::Nct80 => 0,
+        Chip::Nct7802y => nct7802y::SIZES,
+        Chip::F75373s => f75373s::SIZES,
+        Chip::Nct80 => nct80::SIZES,
     }
 }
 
-// The k-th of them, and no bit of any register behind the last.
+// The k-th register that identity looks at, and no bit of any register behind the last.
 pub fn required_of(chip: Chip, k: usize) -> Required
     ensures { λ r. ⌜ Requires chip k r ⌝ }
 {

@@ -5,6 +5,7 @@ mod writable;
 
 use crate::types::Masks;
 use crate::types::NO_MASKS;
+use crate::types::Sizes;
 use clears::CLEARS;
 use power_on::POWER_ON;
 use writable::WRITABLE;
@@ -13,6 +14,11 @@ ghost use Rattle.cards.specs.Nct80.{card};
 ghost use Rattle.cards.specs.Rows.{masksIn, rowIn};
 
 const SIZE: usize = 256;
+
+pub(crate) const SIZES: Sizes = Sizes {
+    image: SIZE,
+    identity: 0,
+};
 
 pub(crate) fn masks(position: usize) -> Masks
     ensures { λ r. ⌜ r ≡ masksIn (rowIn card position) ⌝ }

@@ -17,6 +17,12 @@ pub struct Masks {
     pub clears: u8,
 }
 
+// How many bytes a chip's image has, and how many registers its identity looks at.
+pub struct Sizes {
+    pub image: usize,
+    pub identity: usize,
+}
+
 // A register that identity looks at: the bits that count, and what these hold.
 pub struct Required {
     pub position: usize,

@@ -12,17 +12,17 @@ use lib.ListN.{length, take}
 use Rattle.cards.specs.declared.types.Chip.{Chip}
 use Rattle.cards.specs.declared.types.Required.{Required}
 use Rattle.cards.specs.Rows.{requiredIn}
-use Rattle.cards.specs.Cards.{sheetOf}
+use Rattle.cards.specs.Cards.{sheetOf, sizeOf}
 use Rattle.cards.specs.Identity.{holds, allHold, agrees}
 use Rattle.cards.proofs.Every.{both, of-every}
 use Rattle.cards.proofs.Sound.{lasting, sound-sheet}
 
 -- identity looks inside the image
-pub inside : (chip : Chip) (k : ℕ) → k < length (sheetOf chip .identity) → requiredIn (sheetOf chip .identity) k .position < 256
+pub inside : (chip : Chip) (k : ℕ) → k < length (sheetOf chip .identity) → requiredIn (sheetOf chip .identity) k .position < sizeOf chip
 inside chip k h =
     let r = requiredIn (sheetOf chip .identity) k in
-    let part = both (ltb (r .position) (sheetOf chip .size)) _ (of-every (lasting (sheetOf chip)) (sheetOf chip .identity) _ (sound-sheet chip .identity) k h) .0 in
-    omega (arith, ltb-true (r .position) (sheetOf chip .size) part, sound-sheet chip .size)
+    let part = both (ltb (r .position) (sizeOf chip)) _ (of-every (lasting (sheetOf chip)) (sheetOf chip .identity) _ (sound-sheet chip .identity) k h) .0 in
+    ltb-true (r .position) (sizeOf chip) part
 
 pub none-asked : (image : List ℕ) (rs : List Required) → allHold image (take 0 rs) ≡ true
 none-asked image [] = refl

@@ -16,7 +16,7 @@ unconfirmed chip image = not (whenKnown (chipOf chip) (λ c. confirmed c image) 
 
 -- "identity 3, 8 and 10"
 abbrev pub identityChecks : ℕ → List ℕ → List Check
-identityChecks chip image = (unknown chip, 3) ∷ (notAnImage image, 8) ∷ (unconfirmed chip image, 10) ∷ []
+identityChecks chip image = (unknown chip, 3) ∷ (notAnImage chip image, 8) ∷ (unconfirmed chip image, 10) ∷ []
 
 -- what `identities::confirm` promises. The image is only read, so it holds what it held.
 pub record Confirms (chip : ℕ) (image : List ℕ) (r : Outcome) : Type 0 where

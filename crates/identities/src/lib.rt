@@ -1,12 +1,13 @@
 // Whose an image is: every register that the chip's identity names is asked.
 use cards::Chip;
-use cards::Named;
 use cards::Required;
+use images::Admitted;
 use refusal::Outcome;
 use refusal::Refusal;
 ghost use Prim.Native.Nat.{_<_};
 ghost use mathlib.Core.Path.{_≡_};
 ghost use lib.ListN.{length};
+ghost use Rattle.cards.specs.Cards.{sizeOf};
 ghost use Rattle.cards.specs.Identity.{holds, confirmed};
 ghost use Rattle.identities.specs.Identities.{Confirms};
 
@@ -20,10 +21,11 @@ fn holds(image: &[u8], required: Required) -> bool
 
 // Where nothing is required, nothing is confirmed.
 fn confirmed(chip: Chip, image: &[u8]) -> bool
-    requires { ⌜ length (now image) ≡ 256 ⌝ }
+    requires { ⌜ length (now image) ≡ sizeOf chip ⌝ }
     ensures { λ r. ⌜ r ≡ confirmed chip (now (image .entry)) ⌝ }
 {
-    let count = cards::required_count(chip);
+    let sizes = cards::sizes_of(chip);
+    let count = sizes.identity;
     for k in 0..count {
         let required = cards::required_of(chip, k);
         if !holds(image, required) {
@@ -37,12 +39,9 @@ fn confirmed(chip: Chip, image: &[u8]) -> bool
 pub fn confirm(chip: u8, image: &[u8]) -> Outcome
     ensures { λ r. ⌜ Confirms chip (now (image .entry)) r ⌝ }
 {
-    match cards::chip_of(chip) {
-        Named::Unknown => Outcome::Refused(Refusal::NoSuchChip),
-        Named::Known(known) => {
-            if image.len() != 256 {
-                return Outcome::Refused(Refusal::NotAnImage);
-            }
+    match images::admit(chip, image.len()) {
+        Admitted::Refused(refusal) => Outcome::Refused(refusal),
+        Admitted::Known(known) => {
             if confirmed(known, image) {
                 Outcome::Accepted
             } else {

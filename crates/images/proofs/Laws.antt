@@ -15,7 +15,7 @@ use Rattle.refusal.specs.Answers.{tells}
 use Rattle.cards.specs.declared.types.Chip.{Chip}
 use Rattle.cards.specs.declared.types.Named.the-variants.{Known}
 use Rattle.cards.specs.Rows.{Row}
-use Rattle.cards.specs.Cards.{chipOf, rowOf}
+use Rattle.cards.specs.Cards.{chipOf, rowOf, sizeOf}
 use Rattle.images.specs.Bytes.{storedBits, stored, storedAt, position, seen}
 use Rattle.images.specs.Images.{Writes}
 
@@ -77,10 +77,10 @@ storedAt-closed row position byte image e f h =
 
 -- "A write to a row without masks is accepted and changes nothing."
 pub write-closed : (number : ℕ) (chip : Chip) (address byte : ℕ) (old : List ℕ) {r : Outcome} {new : List ℕ}
-    → chipOf number ≡ Known chip → length old ≡ 256
+    → chipOf number ≡ Known chip → length old ≡ sizeOf chip
     → rowOf chip (position chip old address) .writable ≡ 0 → rowOf chip (position chip old address) .clears ≡ 0 → seen chip address old < 2 ^ 8
     → Writes number old address byte r new → (tells r ≡ 0) × (new ≡ old)
 write-closed number chip address byte old named long e f h p =
-    let size = eq-eqb (length old) 256 long in
+    let size = eq-eqb (length old) (sizeOf chip) long in
     let at = position chip old address in
     (p .answer ∙ simp (named, size), p .bytes ∙ simp (named, size) (storedAt-closed (rowOf chip at) at byte old e f h))

@@ -1,6 +1,7 @@
 pub mod Digits
 pub mod Masks
 pub mod Filling
+pub mod Admission
 pub mod Laws
 pub mod Kept
 pub mod Unique

@@ -6,15 +6,19 @@ use mathlib.Core.List.{List}
 use Rattle.refusal.proofs.Numbers.{numberOf-injective, not-accepted}
 use Rattle.refusal.proofs.Answers.{tells-injective}
 use Rattle.refusal.specs.declared.Outcome.{Outcome}
+use Rattle.images.specs.declared.Admitted.{Admitted}
 use Rattle.images.specs.declared.ByteRead.{ByteRead}
 use Rattle.images.specs.declared.ByteRead.the-variants as byteRead
-use Rattle.images.specs.Images.{tellsByte, Writes, Reads, Resets}
+use Rattle.images.specs.Images.{tellsByte, Admits, Writes, Reads, Resets}
 
 pub tellsByte-injective : (r s : ByteRead) → tellsByte r ≡ tellsByte s → r ≡ s
 tellsByte-injective (byteRead.Byte b) (byteRead.Byte d) e = ap byteRead.Byte (ap (λ (t : ℕ × ℕ). t .1) e)
 tellsByte-injective (byteRead.Byte b) (byteRead.Refused q) e = absurd (not-accepted q (ap (λ (t : ℕ × ℕ). t .0) e))
 tellsByte-injective (byteRead.Refused p) (byteRead.Byte d) e = absurd (not-accepted p (sym (ap (λ (t : ℕ × ℕ). t .0) e)))
 tellsByte-injective (byteRead.Refused p) (byteRead.Refused q) e = ap byteRead.Refused (numberOf-injective p q (ap (λ (t : ℕ × ℕ). t .0) e))
+
+pub admits-unique : {chip size : ℕ} {r s : Admitted} → Admits chip size r → Admits chip size s → r ≡ s
+admits-unique p q = p .answer ∙ sym (q .answer)
 
 pub writes-unique : {chip : ℕ} {old : List ℕ} {address byte : ℕ} {r s : Outcome} {l m : List ℕ}
     → Writes chip old address byte r l → Writes chip old address byte s m → (r ≡ s) × (l ≡ m)

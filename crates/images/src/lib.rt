@@ -6,26 +6,47 @@ use cards::Chip;
 use cards::Named;
 use refusal::Outcome;
 use refusal::Refusal;
+ghost use Prim.Native.Nat.{_≤_};
 ghost use mathlib.Core.Path.{_≡_};
-ghost use lib.ListN.{length};
-ghost use Rattle.cards.specs.Cards.{powerOn};
-ghost use Rattle.images.specs.Images.{Writes, Reads, Resets};
+ghost use lib.ListN.{length, take};
+ghost use Rattle.cards.specs.Rows.{column};
+ghost use Rattle.cards.specs.Cards.{rowOf};
+ghost use Rattle.images.specs.Images.{Admits, Writes, Reads, Resets};
+
+// The chip that an image is asked of.
+pub enum Admitted {
+    Known(Chip),
+    Refused(Refusal),
+}
 
 pub enum ByteRead {
     Byte(u8),
     Refused(Refusal),
 }
 
+// The chip of a number, where an image of that length can be its.
+pub fn admit(chip: u8, size: usize) -> Admitted
+    ensures { λ r. ⌜ Admits chip size r ⌝ }
+{
+    match cards::chip_of(chip) {
+        Named::Unknown => Admitted::Refused(Refusal::NoSuchChip),
+        Named::Known(known) => {
+            let sizes = cards::sizes_of(known);
+            if size != sizes.image {
+                return Admitted::Refused(Refusal::NotAnImage);
+            }
+            Admitted::Known(known)
+        }
+    }
+}
+
 // Writes a byte to an address of the image, as far as the chip's card lets it be written.
 pub fn write(chip: u8, image: &mut [u8], address: u8, byte: u8) -> Outcome
     ensures { λ r. ⌜ Writes chip (now (image .entry)) address byte r (now (image .exit)) ⌝ }
 {
-    match cards::chip_of(chip) {
-        Named::Unknown => Outcome::Refused(Refusal::NoSuchChip),
-        Named::Known(known) => {
-            if image.len() != 256 {
-                return Outcome::Refused(Refusal::NotAnImage);
-            }
+    match admit(chip, image.len()) {
+        Admitted::Refused(refusal) => Outcome::Refused(refusal),
+        Admitted::Known(known) => {
             bus::store(known, image, address, byte);
             Outcome::Accepted
         }
@@ -36,20 +57,15 @@ pub fn write(chip: u8, image: &mut [u8], address: u8, byte: u8) -> Outcome
 pub fn read(chip: u8, image: &[u8], address: u8) -> ByteRead
     ensures { λ r. ⌜ Reads chip (now (image .entry)) address r ⌝ }
 {
-    match cards::chip_of(chip) {
-        Named::Unknown => ByteRead::Refused(Refusal::NoSuchChip),
-        Named::Known(known) => {
-            if image.len() != 256 {
-                return ByteRead::Refused(Refusal::NotAnImage);
-            }
-            ByteRead::Byte(bus::load(known, image, address))
-        }
+    match admit(chip, image.len()) {
+        Admitted::Refused(refusal) => ByteRead::Refused(refusal),
+        Admitted::Known(known) => ByteRead::Byte(bus::load(known, image, address)),
     }
 }
 
-// The power-on column of a chip's card, filled into a working image.
+// The power-on column of a chip's card, filled into a working image. No chip's image is longer.
 fn power_on_image(chip: Chip) -> [u8; 256]
-    ensures { λ r. ⌜ r ≡ powerOn chip ⌝ }
+    ensures { λ r. ⌜ r ≡ column 256 (λ position. rowOf chip position .power) ⌝ }
 {
     let mut working = [0u8; 256];
     for at in 0..256 {
@@ -59,10 +75,10 @@ fn power_on_image(chip: Chip) -> [u8; 256]
 }
 
 fn copy(image: &mut [u8], working: [u8; 256])
-    requires { ⌜ length (now image) ≡ 256 ⌝ }
-    ensures { λ r. ⌜ now (image .exit) ≡ working ⌝ }
+    requires { ⌜ length (now image) ≤ 256 ⌝ }
+    ensures { λ r. ⌜ now (image .exit) ≡ take (length (now (image .entry))) working ⌝ }
 {
-    for at in 0..256 {
+    for at in 0..image.len() {
         image[at] = working[at];
     }
 }
@@ -71,12 +87,9 @@ fn copy(image: &mut [u8], working: [u8; 256])
 pub fn reset(chip: u8, image: &mut [u8]) -> Outcome
     ensures { λ r. ⌜ Resets chip (now (image .entry)) r (now (image .exit)) ⌝ }
 {
-    match cards::chip_of(chip) {
-        Named::Unknown => Outcome::Refused(Refusal::NoSuchChip),
-        Named::Known(known) => {
-            if image.len() != 256 {
-                return Outcome::Refused(Refusal::NotAnImage);
-            }
+    match admit(chip, image.len()) {
+        Admitted::Refused(refusal) => Outcome::Refused(refusal),
+        Admitted::Known(known) => {
             let working = power_on_image(known);
             copy(image, working);
             Outcome::Accepted

@@ -10,7 +10,8 @@ use lib.Dec.{ltb}
 use lib.ListN.{length, take}
 use lib.Seq.{take-all}
 use Rattle.cards.specs.declared.types.Required.{Required}
-use Rattle.cards.specs.Cards.{sheetOf}
+use Rattle.cards.specs.declared.types.Sizes.{Sizes}
+use Rattle.cards.specs.Cards.{sheetOf, sizeOf}
 use Rattle.cards.specs.Identity.{holds, allHold, confirmed}
 use Rattle.identities.proofs.Asked.{inside, none-asked, one-more, one-fails, all-asked}
 use borrow.Author.Needs.{needs}
@@ -23,13 +24,13 @@ Inv-loop chip image count k₀ k = ((k ≤ count) × (count ≡ length (sheetOf 
 abbrev μ-loop : tie.MeasureT-loop
 μ-loop chip image count k₀ k = count - k
 
-required-count-requires : tie.Need-required-count-requires Inv-loop μ-loop
-required-count-requires c κs = search needs
+sizes-of-requires : tie.Need-sizes-of-requires Inv-loop μ-loop
+sizes-of-requires c κs = search needs
 
 loop-holds : tie.Need-loop-holds Inv-loop μ-loop
 loop-holds c =
     let a = c .before .before .args in
-    ((omega arith, c .required-count .ensures .answer), none-asked (a .image .now) (sheetOf (a .chip) .identity))
+    ((omega arith, ap (λ (s : Sizes). s .identity) (c .sizes-of .ensures .answer)), none-asked (a .image .now) (sheetOf (a .chip) .identity))
 
 required-of-requires : tie.Need-required-of-requires Inv-loop μ-loop
 required-of-requires c κs = search needs
@@ -39,7 +40,7 @@ holds-requires c κs =
     let l = c .before .before in
     let a = l .before .before .before .args in
     let there : l .loop .k < length (sheetOf (a .chip) .identity) = omega (arith, l .loop .inv .0 .1) in
-    let long : length (a .image .now) ≡ 256 = search needs in
+    let long : length (a .image .now) ≡ sizeOf (a .chip) = search needs in
     omega (arith, ap (λ (r : Required). r .position) (c .required-of .ensures .answer), inside (a .chip) (l .loop .k) there, long)
 
 returns : tie.Need-returns Inv-loop μ-loop
@@ -85,7 +86,7 @@ confirmed-spec =
     (tie.spec
     Inv-loop
     μ-loop
-    required-count-requires
+    sizes-of-requires
     loop-holds
     required-of-requires
     holds-requires

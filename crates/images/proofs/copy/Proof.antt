@@ -1,21 +1,23 @@
 -- `images::copy` meets its contract: the places passed hold the bytes of the working image.
 -- Assumes nothing.
 use Rattle.images.proofs.Filling.{Filled, filled-none, filled-more, filled-all}
-use lib.ListN.{getD}
+use lib.ListN.{length, getD, take, length-take}
+use lib.Seq.{getD-take}
+use native.Mathlib.Omega.{arith}
 use Prim.Native.Nat.{_-_}
-use mathlib.Core.Path.{refl}
+use mathlib.Core.Path.{_≡_, refl, _∙_}
 use borrow.Author.Needs.{needs}
 use Rattle.images.proofs.copy.Statement.{statement}
 use Rattle.images.proofs.copy.Tie as tie
 
 abbrev Inv-loop : tie.InvT-loop
-Inv-loop image₀ working at₀ image at = Filled (λ k. getD working k 0) 256 image at
+Inv-loop image₀ working at₀ at-end image at = (Filled (λ k. getD working k 0) (length image₀) image at) × (at-end ≡ length image₀)
 
 abbrev μ-loop : tie.MeasureT-loop
-μ-loop image₀ working at₀ image at = 256 - at
+μ-loop image₀ working at₀ at-end image at = at-end - at
 
 loop-holds : tie.Need-loop-holds Inv-loop μ-loop
-loop-holds c = filled-none _ _ _ (c .pre)
+loop-holds c = (filled-none _ _ _ refl, refl)
 
 array-read-image : tie.Need-array-read-image Inv-loop μ-loop
 array-read-image c = search needs
@@ -30,13 +32,18 @@ loop-less : tie.Need-loop-less Inv-loop μ-loop
 loop-less c = search needs
 
 loop-again : tie.Need-loop-again Inv-loop μ-loop
-loop-again c = filled-more _ (c .before .loop .inv) (search needs) refl
+loop-again c = (filled-more _ (c .before .loop .inv .0) (omega (arith, c .before .loop .inv .1)) refl, c .before .loop .inv .1)
 
 same-length : tie.Need-same-length Inv-loop μ-loop
 same-length c = search needs
 
 returns : tie.Need-returns Inv-loop μ-loop
-returns c = filled-all (c .before .loop .inv) (search needs) _ (search needs) (λ k h. refl)
+returns c =
+    let a = c .before .before .args in
+    let long : length (a .t2) ≡ 256 = search needs in
+    filled-all (c .before .loop .inv .0) (omega (arith, c .before .loop .inv .1)) (take (length (a .image .now)) (a .t2))
+    (length-take (length (a .image .now)) (a .t2) ∙ omega (arith, long, c .before .before .pre))
+    (λ k h. getD-take (length (a .image .now)) (a .t2) k 0 h)
 
 pub copy-spec : {M : Type 1} → statement M
 copy-spec =

@@ -1,13 +1,11 @@
 -- `images::power_on_image` meets its contract: the places passed hold the power-on values of their rows.
 -- Assumes nothing.
 use Rattle.cards.proofs.Columns.{column-length, column-at}
-use Rattle.cards.proofs.Sound.{sound-sheet}
-use Rattle.cards.specs.Sheets.{powerOnIn}
-use Rattle.cards.specs.Cards.{sheetOf, rowOf, powerOn}
+use Rattle.cards.specs.Rows.{column}
+use Rattle.cards.specs.Cards.{rowOf}
 use Rattle.images.proofs.Filling.{Filled, filled-none, filled-more, filled-all}
 use Prim.Native.Nat.{_-_}
-use native.Mathlib.Omega.{arith}
-use mathlib.Core.Path.{_≡_, refl, _∙_}
+use mathlib.Core.Path.{refl}
 use borrow.Author.Needs.{needs}
 use Rattle.images.proofs.power_on_image.Statement.{statement}
 use Rattle.images.proofs.power_on_image.Tie as tie
@@ -38,12 +36,9 @@ loop-again c =
     filled-more _ (c .before .before .loop .inv) (c .before .loop-test .taken) (c .power-on-of .ensures .answer)
 
 returns : tie.Need-returns Inv-loop μ-loop
-unfolding rowOf powerOnIn
 returns c =
-    let chip = c .before .before .args .chip in
-    let full : sheetOf chip .size ≡ 256 = sound-sheet chip .size in
-    filled-all (c .before .loop .inv) (c .loop-test .left) (powerOn chip) (column-length (sheetOf chip .size) _ ∙ full)
-    (λ k h. column-at (sheetOf chip .size) _ k (omega (arith, full)))
+    filled-all (c .before .loop .inv) (c .loop-test .left) (column 256 (λ k. rowOf (c .before .before .args .chip) k .power)) (column-length 256 _)
+    (column-at 256 _)
 
 pub power-on-image-spec : {M : Type 1} → statement M
 power-on-image-spec =

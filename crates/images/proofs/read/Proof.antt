@@ -1,45 +1,49 @@
--- `images::read` meets its contract: each answer knows which chip the number names and how long the image is.
+-- `images::read` meets its contract: what is not refused is loaded.
 -- Assumes nothing.
-use mathlib.Core.Path.{sym, _∙_}
-use borrow.Author.Tests.{eq-eqb, ne-eqb}
+use mathlib.Core.Path.{sym, ap, _∙_}
+use Prim.Native.Nat.{ℕ}
+use Rattle.refusal.proofs.Passed.{told-passed, told-refused}
+use Rattle.cards.specs.declared.types.Named.{Named}
+use Rattle.cards.specs.Cards.{whenKnown}
+use Rattle.images.specs.Bytes.{seen}
+use Rattle.images.specs.Images.{imageChecks}
+use Rattle.images.proofs.Admission.{admit-known, admit-passed, admit-refused}
 use borrow.Author.Needs.{needs}
 use Rattle.images.proofs.read.Statement.{statement}
 use Rattle.images.proofs.read.Tie as tie
 
-chip-of-requires : tie.Need-chip-of-requires
-chip-of-requires c κs = search needs
+admit-requires : tie.Need-admit-requires
+admit-requires c κs = search needs
 
-enum-told : tie.Need-enum-told
-enum-told c = search needs
+enum-known-refusal : tie.Need-enum-known-refusal
+enum-known-refusal c = search needs
 
 enum-known-known : tie.Need-enum-known-known
 enum-known-known c = search needs
 
-returns : tie.Need-returns
-returns c =
-    let e = sym (c .before .before .before .before .chip-of .ensures .answer) ∙ c .before .before .known .given .1 in
-    record { answer = simp (e, ne-eqb _ _ (c .if1 .taken)) }
-
 load-requires : tie.Need-load-requires
 load-requires c κs = search needs
 
-returns-2 : tie.Need-returns-2
-returns-2 c = record { answer = simp (sym (c .before .before .chip-of .ensures .answer) ∙ c .enum-told .given .1) }
+returns : tie.Need-returns
+returns c =
+    let a = c .before .before .before .before .before .args in
+    let p = admit-refused (c .before .refusal .given .0 .0) (c .before .before .before .admit .ensures) (c .before .refusal .given .1) in
+    record { answer = told-refused (c .before .refusal .given .0 .0) (imageChecks (a .chip) (a .image .now)) _ p }
 
-returns-3 : tie.Need-returns-3
-returns-3 c =
-    let k = c .before in
-    let e = sym (k .before .before .before .before .chip-of .ensures .answer) ∙ k .before .before .known .given .1 in
-    record { answer = simp (e, eq-eqb _ _ (k .if1 .left), c .load .ensures) }
+returns-2 : tie.Need-returns-2
+returns-2 c =
+    let k = c .before .before in
+    let a = k .before .before .before .before .args in
+    let chip = k .known .given .0 .0 in
+    let K = admit-known chip (k .before .before .admit .ensures) (k .known .given .1) in
+    let none = admit-passed (a .chip) chip (a .image .now) (K .named) (K .long) in
+    record {
+      answer = ap (λ (b : ℕ). (0, b))
+          (c .load .ensures ∙ sym (ap (λ (n : Named). whenKnown n (λ c. seen c (a .address) (a .image .now)) 0) (K .named)))
+          ∙ told-passed (imageChecks (a .chip) (a .image .now)) _ none;
+    }
 
 pub read-spec : {M : Type 1} → statement M
 read-spec =
     tie.close
-    (tie.spec
-    chip-of-requires
-    enum-told
-    enum-known-known
-    returns
-    load-requires
-    returns-2
-    returns-3)
+    (tie.spec admit-requires enum-known-refusal enum-known-known load-requires returns returns-2)

@@ -1,60 +1,75 @@
--- `images::reset` meets its contract: each answer knows which chip the number names and how long the image is; the working image is the power-on column.
+-- `images::reset` meets its contract: what is not refused is the power-on column, as much of it as the image is long.
 -- Assumes nothing.
-use mathlib.Core.Path.{sym, _∙_}
-use borrow.Author.Tests.{eq-eqb, ne-eqb}
+use Prim.Native.Nat.{ℕ}
+use native.Mathlib.Omega.{arith}
+use mathlib.Core.Path.{sym, ap, ap₂, _∙_}
+use mathlib.Core.List.{List}
+use lib.ListN.{take}
+use Rattle.refusal.proofs.Passed.{when-passed, when-refused}
+use Rattle.cards.specs.declared.types.Named.{Named}
+use Rattle.cards.specs.Sheets.{powerOnIn}
+use Rattle.cards.specs.Cards.{sheetOf, rowOf, powerOn, whenKnown}
+use Rattle.cards.proofs.Columns.{column-front}
+use Rattle.cards.proofs.Sound.{sound-sheet}
+use Rattle.images.proofs.Admission.{admit-known, admit-passed, admit-refused}
 use borrow.Author.Needs.{needs}
 use Rattle.images.proofs.reset.Statement.{statement}
 use Rattle.images.proofs.reset.Tie as tie
 
-chip-of-requires : tie.Need-chip-of-requires
-chip-of-requires c κs = search needs
+admit-requires : tie.Need-admit-requires
+admit-requires c κs = search needs
 
-enum-told : tie.Need-enum-told
-enum-told c = search needs
+enum-known-refusal : tie.Need-enum-known-refusal
+enum-known-refusal c = search needs
 
 enum-known-known : tie.Need-enum-known-known
 enum-known-known c = search needs
-
-returns : tie.Need-returns
-returns c =
-    let e = sym (c .before .before .before .before .chip-of .ensures .answer) ∙ c .before .before .known .given .1 in
-    let short = ne-eqb _ _ (c .if1 .taken) in
-    record { answer = simp (e, short); bytes = simp (e, short) }
 
 power-on-image-requires : tie.Need-power-on-image-requires
 power-on-image-requires c κs = search needs
 
 copy-requires : tie.Need-copy-requires
-copy-requires c κs = search needs
+copy-requires c κs =
+    let k = c .before .before .before in
+    let chip = k .known .given .0 .0 in
+    let K = admit-known chip (k .before .before .admit .ensures) (k .known .given .1) in
+    omega (arith, K .long, sound-sheet chip .size)
 
-returns-2 : tie.Need-returns-2
-returns-2 c =
-    let e = sym (c .before .before .chip-of .ensures .answer) ∙ c .enum-told .given .1 in
-    record { answer = simp e; bytes = simp e }
+returns : tie.Need-returns
+returns c =
+    let a = c .before .before .before .before .before .args in
+    let p = admit-refused (c .before .refusal .given .0 .0) (c .before .before .before .admit .ensures) (c .before .refusal .given .1) in
+    record { answer = p; bytes = when-refused (c .before .refusal .given .0 .0) _ (a .image .now) p }
 
 same-length : tie.Need-same-length
 same-length c = search needs
 
-returns-3 : tie.Need-returns-3
-returns-3 c =
-    let k = c .before .before .before .before .before in
-    let e = sym (k .before .before .before .before .chip-of .ensures .answer) ∙ k .before .before .known .given .1 in
-    let long = eq-eqb _ _ (k .if1 .left) in
+returns-2 : tie.Need-returns-2
+unfolding powerOnIn rowOf
+returns-2 c =
+    let k = c .before .before .before .before .before .before in
+    let a = k .before .before .before .before .args in
+    let chip = k .known .given .0 .0 in
+    let K = admit-known chip (k .before .before .admit .ensures) (k .known .given .1) in
+    let none = admit-passed (a .chip) chip (a .image .now) (K .named) (K .long) in
     record {
-      answer = simp (e, long);
-      bytes = simp (e, long, c .before .before .copy .ensures, c .before .before .before .before .power-on-image .ensures);
+      answer = sym none;
+      bytes = c .before .before .copy .ensures
+          ∙ ap₂ (λ (n : ℕ) (l : List ℕ). take n l) (K .long) (c .before .before .before .before .power-on-image .ensures)
+          ∙ column-front 256 (sheetOf chip .size) (λ p. rowOf chip p .power) (sound-sheet chip .size)
+          ∙ sym (ap (λ (n : Named). whenKnown n powerOn (a .image .now)) (K .named))
+          ∙ when-passed _ (a .image .now) none;
     }
 
 pub reset-spec : {M : Type 1} → statement M
 reset-spec =
     tie.close
     (tie.spec
-    chip-of-requires
-    enum-told
+    admit-requires
+    enum-known-refusal
     enum-known-known
-    returns
     power-on-image-requires
     copy-requires
-    returns-2
+    returns
     same-length
-    returns-3)
+    returns-2)

@@ -1,9 +1,9 @@
--- `cards::required_count` meets its contract: each arm has the length of its page's identity.
+-- `cards::sizes_of` meets its contract: each arm has what its page has.
 -- Assumes nothing.
 use Rattle.cards.specs.Cards.{sheetOf}
 use borrow.Author.Needs.{needs}
-use Rattle.cards.proofs.required_count.Statement.{statement}
-use Rattle.cards.proofs.required_count.Tie as tie
+use Rattle.cards.proofs.sizes_of.Statement.{statement}
+use Rattle.cards.proofs.sizes_of.Tie as tie
 
 enum-told : tie.Need-enum-told
 enum-told c = search needs
@@ -26,5 +26,5 @@ returns-3 : tie.Need-returns-3
 unfolding sheetOf
 returns-3 c = record { answer = simp (c .enum-told3 .given .1) }
 
-pub required-count-spec : {M : Type 1} → statement M
-required-count-spec = tie.close (tie.spec enum-told enum-told-2 enum-told-3 returns returns-2 returns-3)
+pub sizes-of-spec : {M : Type 1} → statement M
+sizes-of-spec = tie.close (tie.spec enum-told enum-told-2 enum-told-3 returns returns-2 returns-3)
