@@ -4,7 +4,7 @@ use Prim.Native.Nat.{ℕ, suc, _+_, _-_, _≤_, _<_}
 use native.Mathlib.Omega.{arith}
 use mathlib.Core.Path.{_≡_, refl, sym, ap₂, _∙_}
 use mathlib.Core.Bool.{Bool, true, false, So, cond, _&&_}
-use mathlib.Core.List.{List, [], _∷_}
+use mathlib.Core.List.{List, [], _∷_, _++_}
 use borrow.Author.Tests.{eqb-true, ltb-true, leb-true}
 use lib.Dec.{eqb, leb, ltb}
 use lib.ListN.{length, getD}
@@ -98,6 +98,14 @@ module _ (chip : Chip) (number : ℕ) (has : So (hasTable chip number)) where
 
   pub table-within : (k : ℕ) → k < length (positions (tableOf chip number)) → getD (positions (tableOf chip number)) k 0 < sizeOf chip
   table-within k h = sheet-within (sheetOf chip) (sound-sheet chip) number has k h
+
+  -- a table begins no further than at the image's end
+  pub base-inside : baseOf chip number ≤ sizeOf chip
+  base-inside = by-settings (tableOf chip number .settings) (tableOf chip number .speeds) (table-within 0)
+    where
+      by-settings : (settings speeds : List ℕ) → (0 < length (settings ++ speeds) → getD (settings ++ speeds) 0 0 < sizeOf chip) → getD settings 0 0 ≤ sizeOf chip
+      by-settings [] speeds h = omega arith
+      by-settings (p ∷ ps) speeds h = omega (arith, h (omega arith))
 
   -- no two registers of a table share a position
   pub table-distinct : (j k : ℕ) → j < length (positions (tableOf chip number)) → k < length (positions (tableOf chip number))

@@ -6,7 +6,6 @@ use mathlib.Core.Bool.{Bool, true, false, cond, not}
 use mathlib.Core.List.{List, [], _∷_}
 use lib.ListN.{getD}
 use lib.IntN.{ℤ, pos}
-use lib.ListN.{length}
 use borrow.Author.Tests.{not-false}
 use Rattle.refusal.specs.declared.Outcome.the-variants.{Accepted}
 use Rattle.refusal.specs.Refusals.{numberOf}
@@ -17,10 +16,12 @@ use Rattle.cards.specs.declared.types.Named.{Named}
 use Rattle.cards.specs.declared.types.Named.the-variants.{Known}
 use Rattle.cards.specs.declared.types.Place.{Place}
 use Rattle.cards.specs.Rows.{masksIn, requiredIn}
+use Rattle.cards.specs.Sheets.{sizesIn}
 use Rattle.cards.specs.Cards.{sheetOf, chipOf, unknown, hasTable, rowOf, baseOf, tellsNamed, tellsPlace, Names, Places}
 use Rattle.cards.proofs.Told.{names-told, places-told}
 use Rattle.cards.specs.Identity.{confirmed}
 use Rattle.images.specs.Images.{imageChecks}
+use Rattle.images.proofs.Admission.{admits-told}
 use Rattle.identities.specs.Identities.{identityChecks, Confirms}
 use Rattle.readings.specs.Readings.{asWord, voltage}
 use Rattle.readings.proofs.RoundTrip.{steps-come-back, bytes-come-back-cleared}
@@ -69,9 +70,10 @@ demand-1 =
       chip-of = named-answered;
       masks-of = λ chip position. record { answer = masksIn (rowOf chip position); kept = record { answer = refl } };
       power-on-of = λ chip position. record { answer = rowOf chip position .power; kept = record { answer = refl } };
-      required-count = λ chip. record { answer = length (sheetOf chip .identity); kept = record { answer = refl } };
+      sizes-of = λ chip. record { answer = sizesIn (sheetOf chip); kept = record { answer = refl } };
       required-of = λ chip k. record { answer = requiredIn (sheetOf chip .identity) k; kept = record { answer = refl } };
       table-at = placed-answered;
+      admit = λ chip size r p. told-answered 0 chip _ (admits-told p);
       write = λ chip old address byte r new p. (verdict-answered r _ (p .answer), left-kept (imageChecks chip old) _ (p .answer) (p .bytes));
       read = λ chip image address r p. told-answered 0 _ _ (p .answer);
       reset = λ chip old r new p. (verdict-answered r _ (p .answer), left-kept (imageChecks chip old) _ (p .answer) (p .bytes));

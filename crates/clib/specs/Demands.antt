@@ -18,8 +18,9 @@ use Rattle.cards.specs.declared.types.Chip.{Chip}
 use Rattle.cards.specs.declared.types.Named.{Named}
 use Rattle.cards.specs.declared.types.Named.the-variants.{Known}
 use Rattle.cards.specs.declared.types.Place.{Place}
-use Rattle.cards.specs.Cards.{chipOf, unknown, hasTable, tellsNamed, tellsPlace, Names, Finds, PowersOn, Lists, Requires, Places}
+use Rattle.cards.specs.Cards.{chipOf, unknown, hasTable, tellsNamed, tellsPlace, Names, Finds, PowersOn, Measures, Requires, Places}
 use Rattle.cards.specs.Identity.{confirmed}
+use Rattle.images.specs.declared.Admitted.{Admitted}
 use Rattle.images.specs.declared.ByteRead.{ByteRead}
 use Rattle.images.specs.Images as images
 use Rattle.identities.specs.Identities.{identityChecks, Confirms}
@@ -81,10 +82,11 @@ pub record Demand1 : Type 0 where
   pub chip-of : (number : ℕ) (r : Named) → Names number r → Answered ((unknown number, 3) ∷ []) 0 (tellsNamed r)
   pub masks-of : (chip : Chip) (position : ℕ) → Given (λ masks. Finds chip position masks)
   pub power-on-of : (chip : Chip) (position : ℕ) → Given (λ byte. PowersOn chip position byte)
-  pub required-count : (chip : Chip) → Given (λ count. Lists chip count)
+  pub sizes-of : (chip : Chip) → Given (λ sizes. Measures chip sizes)
   pub required-of : (chip : Chip) (k : ℕ) → Given (λ required. Requires chip k required)
   pub table-at : (chip : Chip) (number : ℕ) (r : Place) → Places chip number r → Answered ((not (hasTable chip number), 4) ∷ []) 0 (tellsPlace r)
   -- register images
+  pub admit : (chip size : ℕ) (r : Admitted) → images.Admits chip size r → Answered (images.sizeChecks chip size) 0 (images.tellsAdmitted r)
   pub write : (chip : ℕ) (old : List ℕ) (address byte : ℕ) (r : Outcome) (new : List ℕ) → images.Writes chip old address byte r new
       → Answered (images.imageChecks chip old) tt (verdict r) × Kept (tells r) old new
   pub read : (chip : ℕ) (image : List ℕ) (address : ℕ) (r : ByteRead) → images.Reads chip image address r

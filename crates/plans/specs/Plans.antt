@@ -58,7 +58,7 @@ AsksPlan plan t r = AsksPlanBy (askPlanChecks plan) plan t r
 
 -- "Asking a speed of an image checks 3, 4 and 8"
 abbrev pub askImageChecks : ℕ → ℕ → List ℕ → List Check
-askImageChecks chip table image = (unknown chip, 3) ∷ (noTable chip table, 4) ∷ (notAnImage image, 8) ∷ []
+askImageChecks chip table image = (unknown chip, 3) ∷ (noTable chip table, 4) ∷ (notAnImage chip image, 8) ∷ []
 
 -- what `plans::asked_of_image` promises. The image is only read, so it holds what it held.
 pub record AsksImage (chip table : ℕ) (image : List ℕ) (t : ℕ) (r : Asked) : Type 0 where

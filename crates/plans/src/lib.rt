@@ -70,7 +70,8 @@ pub fn asked_of_image(chip: u8, table: u8, image: &[u8], t: u8) -> Asked
         Named::Known(known) => match cards::table_at(known, table) {
             Place::Nowhere => Asked::Refused(Refusal::NoSuchTable),
             Place::At(base) => {
-                if image.len() != 256 {
+                let sizes = cards::sizes_of(known);
+                if image.len() != sizes.image {
                     return Asked::Refused(Refusal::NotAnImage);
                 }
                 let at = base as usize;

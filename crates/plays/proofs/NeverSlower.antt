@@ -18,7 +18,7 @@ use Rattle.cards.specs.declared.types.Chip.the-variants.{Nct7802y, F75373s, Nct
 use Rattle.cards.specs.declared.types.Named.{Named}
 use Rattle.cards.specs.declared.types.Named.the-variants.{Known}
 use Rattle.cards.specs.Rows.{Table, positions}
-use Rattle.cards.specs.Cards.{chipOf, whenKnown, hasTable, tableOf}
+use Rattle.cards.specs.Cards.{sizeOf, chipOf, whenKnown, hasTable, tableOf}
 use Rattle.curves.specs.declared.Plan.{Plan}
 use Rattle.plans.specs.declared.Asked.{Asked}
 use Rattle.plans.specs.declared.Asked.the-variants.{Speed}
@@ -41,7 +41,7 @@ use Rattle.plays.proofs.NeverRefused.{play-accepted}
 -- what an accepted play knows of its plan and its image
 pub record Accepted (chip : Chip) (plan : Plan) (image : List ℕ) : Type 0 where
   pub has : So (hasTable chip (plan .table))
-  pub long : length image ≡ 256
+  pub long : length image ≡ sizeOf chip
 
 accepted : {plan : Plan} {old new : List ℕ} {count n : ℕ} (chip : Chip) → chipOf (plan .chip) ≡ Known chip → Plays plan old count (counted.Of n) new
     → Accepted chip plan old
@@ -50,14 +50,14 @@ accepted {plan} {old} chip e p =
     let checks = all-passed (playChecks plan old) refl (sym none) in
     record {
       has = not-false (hasTable chip (plan .table)) (rw e at (checks .1 .0));
-      long = eqb-true (length old) 256 (not-false (eqb (length old) 256) (checks .1 .1 .1 .1 .0));
+      long = eqb-true (length old) (sizeOf chip) (not-false (eqb (length old) (sizeOf chip)) (rw e at (checks .1 .1 .1 .1 .0)));
     }
 
 -- what is asked of an image, and of a plan, is a speed
-image-speed : {number table t : ℕ} {image : List ℕ} {r : Asked} (chip : Chip) → chipOf number ≡ Known chip → So (hasTable chip table) → length image ≡ 256
+image-speed : {number table t : ℕ} {image : List ℕ} {r : Asked} (chip : Chip) → chipOf number ≡ Known chip → So (hasTable chip table) → length image ≡ sizeOf chip
     → AsksImage number table image t r → r ≡ Speed (asks chip (held (tableOf chip table) image) t)
 image-speed {number} {table} {t} {image} {r} chip e has long p =
-    tellsAsked-injective r (Speed (asks chip (held (tableOf chip table) image) t)) (p .answer ∙ rw (e, has, eq-eqb (length image) 256 long))
+    tellsAsked-injective r (Speed (asks chip (held (tableOf chip table) image) t)) (p .answer ∙ rw (e, has, eq-eqb (length image) (sizeOf chip) long))
 
 plan-speed : {plan : Plan} {t : ℕ} {r : Asked} (chip : Chip) → chipOf (plan .chip) ≡ Known chip → So (hasTable chip (plan .table))
     → AsksPlan plan t r → r ≡ Speed (asks chip (planned chip plan) t)
@@ -141,7 +141,7 @@ pub demand-3 : {plan : Plan} {old new : List ℕ} {count n : ℕ} (chip : Chip) 
 demand-3 {plan} {old} {new} {count} chip e typed bytes p =
     let ok = accepted chip e p in
     let stop = left-by-play chip e p in
-    let long : length new ≡ 256 = ap length stop ∙ played-length chip (take count (scriptOf chip plan)) old ∙ ok .long in
+    let long : length new ≡ sizeOf chip = ap length stop ∙ played-length chip (take count (scriptOf chip plan)) old ∙ ok .long in
     record {
       never-slower = λ t s b q atStop before planned.
           rw (image-speed chip e (ok .has) long atStop, image-speed chip e (ok .has) (ok .long) before, plan-speed chip e (ok .has) planned, stop)

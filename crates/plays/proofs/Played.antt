@@ -12,7 +12,7 @@ use lib.Dec.{eqb}
 use lib.ListN.{length, getD, take}
 use Rattle.cards.specs.declared.types.Chip.{Chip}
 use Rattle.cards.specs.Rows.{positions}
-use Rattle.cards.specs.Cards.{rowOf, hasTable, tableOf}
+use Rattle.cards.specs.Cards.{rowOf, sizeOf, hasTable, tableOf}
 use Rattle.cards.proofs.Tables.{table-mask, table-within, table-distinct}
 use Rattle.images.specs.Bytes.{placed, written}
 use Rattle.images.proofs.Laws.{lands, storedAt-length, storedAt-other, storedAt-full}
@@ -29,7 +29,7 @@ bytesOf image position = getD image position 0
 
 -- a register of the image that takes every bit
 abbrev Free : Chip → ℕ → Type 0
-Free chip position = (rowOf chip position .writable ≡ 0xFF) × (position < 256)
+Free chip position = (rowOf chip position .writable ≡ 0xFF) × (position < sizeOf chip)
 
 -- a write of a byte to such a register
 abbrev Whole : Chip → Pair → Type 0
@@ -59,7 +59,7 @@ laid-length chip (w ∷ ws) image =
 pub played-length : (chip : Chip) (ws : List Pair) (image : List ℕ) → length (played chip ws image) ≡ length image
 played-length chip ws image = ap length (played-laid chip ws image) ∙ laid-length chip ws image
 
-placed-put : (chip : Chip) (w : Pair) (image : List ℕ) → Whole chip w → length image ≡ 256
+placed-put : (chip : Chip) (w : Pair) (image : List ℕ) → Whole chip w → length image ≡ sizeOf chip
     → bytesOf (placed chip (w .0) (w .1) image) ≡ put (bytesOf image) w
 placed-put chip w image h e = λ i q. at-each q (eqb q (w .0)) refl i
   where
@@ -74,14 +74,14 @@ placed-put chip w image h e = λ i q. at-each q (eqb q (w .0)) refl i
         storedAt-other (rowOf chip (w .0)) (w .0) (w .1) image q other
         ∙ sym (put-elsewhere (bytesOf image) (w .0) (w .1) q other)
 
-laid-puts : (chip : Chip) (ws : List Pair) (image : List ℕ) → AllWhole chip ws → length image ≡ 256
+laid-puts : (chip : Chip) (ws : List Pair) (image : List ℕ) → AllWhole chip ws → length image ≡ sizeOf chip
     → bytesOf (laid chip ws image) ≡ puts (bytesOf image) ws
 laid-puts chip [] image h e = refl
 laid-puts chip (w ∷ ws) image h e =
     laid-puts chip ws (placed chip (w .0) (w .1) image) (h .1) (storedAt-length (rowOf chip (w .0)) (w .0) (w .1) image ∙ e)
     ∙ ap (λ (m : Memory). puts m ws) (placed-put chip w image (h .0) e)
 
-pub played-puts : (chip : Chip) (ws : List Pair) (image : List ℕ) → AllWhole chip ws → length image ≡ 256
+pub played-puts : (chip : Chip) (ws : List Pair) (image : List ℕ) → AllWhole chip ws → length image ≡ sizeOf chip
     → bytesOf (played chip ws image) ≡ puts (bytesOf image) ws
 played-puts chip ws image h e = ap bytesOf (played-laid chip ws image) ∙ laid-puts chip ws image h e
 

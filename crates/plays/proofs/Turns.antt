@@ -17,7 +17,7 @@ use Rattle.refusal.proofs.Passed.{all-passed, when-passed, when-refused, told-p
 use Rattle.cards.specs.declared.types.Chip.{Chip}
 use Rattle.cards.specs.declared.types.Named.{Named}
 use Rattle.cards.specs.declared.types.Named.the-variants.{Known, Unknown}
-use Rattle.cards.specs.Cards.{chipOf, whenKnown}
+use Rattle.cards.specs.Cards.{chipOf, whenKnown, sizeOf}
 use Rattle.images.specs.Bytes.{written}
 use Rattle.identities.specs.Identities.{identityChecks, Confirms}
 use Rattle.images.specs.Images.{Writes}
@@ -29,8 +29,10 @@ pub answered : {chip : ℕ} {image : List ℕ} {r s : Outcome} → Confirms chip
 answered {chip} {image} c e = subst (λ (a : Outcome). Confirms chip image a) e c
 
 -- a confirmed image is one
-confirmed-long : (chip : ℕ) (image : List ℕ) → first (identityChecks chip image) ≡ 0 → length image ≡ 256
-confirmed-long chip image e = eqb-true (length image) 256 (not-false (eqb (length image) 256) (all-passed (identityChecks chip image) refl e .1 .0))
+confirmed-long : (number : ℕ) (chip : Chip) (image : List ℕ) → chipOf number ≡ Known chip → first (identityChecks number image) ≡ 0
+    → length image ≡ sizeOf chip
+confirmed-long number chip image named e =
+    eqb-true (length image) (sizeOf chip) (not-false (eqb (length image) (sizeOf chip)) (rw named at (all-passed (identityChecks number image) refl e .1 .0)))
 
 -- the first k pairs are written on the image, whose identity was confirmed
 pub record Made (chip : ℕ) (pairs : List ℕ) (n : ℕ) (old image : List ℕ) (k : ℕ) : Type 0 where
@@ -67,7 +69,7 @@ made-more {chip} {pairs} {n} {old} {image} {new} {k} m h e w =
     by-chip : (named : Named) → chipOf chip ≡ named → new ≡ after chip pairs (suc k) old
     by-chip (Known c) q =
         w .bytes
-        ∙ rw (q, eq-eqb (length image) 256 (m .long ∙ confirmed-long chip old (m .confirmed)))
+        ∙ rw (q, eq-eqb (length image) (sizeOf c) (m .long ∙ confirmed-long chip c old q (m .confirmed)))
         (ap (written c (getD pairs (2 * k) 0) (getD pairs (2 * k + 1) 0)) (m .same ∙ rw q)
         ∙ sym (played-append c (pairsIn k pairs) ((getD pairs (2 * k) 0, getD pairs (2 * k + 1) 0) ∷ []) old))
     by-chip Unknown q = w .bytes ∙ rw q (m .same ∙ rw q)

@@ -22,7 +22,7 @@ played chip (w ∷ ws) image = played chip ws (written chip (w .0) (w .1) image)
 
 -- "playing a script checks 3, 4, 6, 7, 8, 10 and no 9": the plan, then the starting image
 abbrev pub startChecks : Plan → List ℕ → List Check
-startChecks plan image = (notAnImage image, 8) ∷ (unconfirmed (plan .chip) image, 10) ∷ []
+startChecks plan image = (notAnImage (plan .chip) image, 8) ∷ (unconfirmed (plan .chip) image, 10) ∷ []
 
 abbrev pub playChecks : Plan → List ℕ → List Check
 playChecks plan image = planChecks plan ++ startChecks plan image

@@ -2,7 +2,6 @@
 -- Assumes nothing.
 use mathlib.Core.Path.{sym, ap, _∙_}
 use borrow.Author.Tests.{eq-eqb, ne-eqb}
-use Prim.Native.Nat.{ℕ}
 use Rattle.cards.specs.declared.types.Sizes.{Sizes}
 use borrow.Author.Needs.{needs}
 use Rattle.images.proofs.admit.Statement.{statement}

@@ -5,6 +5,7 @@ use Rattle.cards.specs.Rows.{column}
 use Rattle.cards.specs.Cards.{rowOf}
 use Rattle.images.proofs.Filling.{Filled, filled-none, filled-more, filled-all}
 use Prim.Native.Nat.{_-_}
+use native.Mathlib.Omega.{arith}
 use mathlib.Core.Path.{refl}
 use borrow.Author.Needs.{needs}
 use Rattle.images.proofs.power_on_image.Statement.{statement}
@@ -33,11 +34,11 @@ loop-less c = search needs
 
 loop-again : tie.Need-loop-again Inv-loop μ-loop
 loop-again c =
-    filled-more _ (c .before .before .loop .inv) (c .before .loop-test .taken) (c .power-on-of .ensures .answer)
+    filled-more _ (c .before .before .loop .inv) (omega (arith, c .before .loop-test .taken)) (c .power-on-of .ensures .answer)
 
 returns : tie.Need-returns Inv-loop μ-loop
 returns c =
-    filled-all (c .before .loop .inv) (c .loop-test .left) (column 256 (λ k. rowOf (c .before .before .args .chip) k .power)) (column-length 256 _)
+    filled-all (c .before .loop .inv) (omega (arith, c .loop-test .left)) (column 256 (λ k. rowOf (c .before .before .args .chip) k .power)) (column-length 256 _)
     (column-at 256 _)
 
 pub power-on-image-spec : {M : Type 1} → statement M
