@@ -1,7 +1,6 @@
 -- "Plan record and script": a plan's body, its values "in the register order"; and the contracts of `bodies`.
 -- Assumes nothing.
 use Prim.Native.Nat.{ℕ}
-use mathlib.Core.Path.{_≡_}
 use mathlib.Core.List.{List, _++_}
 use lib.ListN.{getD}
 use Rattle.cards.specs.declared.types.Chip.{Chip}
@@ -12,7 +11,7 @@ use Rattle.curves.specs.declared.StepValues.{StepValues}
 use Rattle.curves.specs.declared.Plan.{Plan}
 use Rattle.curves.specs.Curves.{words}
 use Rattle.curves.specs.Values.{noSlope, noSteps}
-use Rattle.curves.specs.Planned.{Curve, planned, bytesAt}
+use Rattle.curves.specs.Planned.{Curve, valuesAt}
 
 -- the bytes of a curve: settings, then speeds
 abbrev pub body : Curve → List ℕ
@@ -20,21 +19,13 @@ body curve = curve .settings ++ curve .speeds
 
 -- the values that stand in a body's bytes, "in the register order". What a short body lacks counts as 0.
 abbrev pub slopeIn : List ℕ → SlopeValues
-slopeIn body = record { temperatures = bytesAt body (from 0 4); critical = getD body 4 0; duties = bytesAt body (from 5 4) }
+slopeIn body = record { temperatures = valuesAt body (from 0 4); critical = getD body 4 0; duties = valuesAt body (from 5 4) }
 
 abbrev pub stepsIn : List ℕ → StepValues
-stepsIn body = record { bounds = bytesAt body (from 0 4); counts = words (bytesAt body (from 4 10)) }
+stepsIn body = record { bounds = valuesAt body (from 0 4); counts = words (valuesAt body (from 4 10)) }
 
 -- the plan whose curve stands in a body's bytes; "those of the other chip are zero in what is read"
 abbrev pub decoded : Chip → ℕ → List ℕ → Plan
 decoded Nct7802y table body = record { chip = 1; table = table; slope = slopeIn body; steps = noSteps }
 decoded F75373s table body = record { chip = 2; table = table; slope = noSlope; steps = stepsIn body }
 decoded Nct80 table body = record { chip = 3; table = table; slope = noSlope; steps = noSteps }
-
--- what `bodies::plan_of` promises. The bytes are only read, so they are what they were.
-pub record Decodes (chip : Chip) (table : ℕ) (bytes : List ℕ) (plan : Plan) : Type 0 where
-  pub answer : plan ≡ decoded chip table bytes
-
--- what `bodies::byte_of` promises: the byte at a place of a plan's body, and 0 behind its end
-pub record Encodes (chip : Chip) (plan : Plan) (k r : ℕ) : Type 0 where
-  pub answer : r ≡ getD (body (planned chip plan)) k 0

@@ -6,7 +6,7 @@ ghost use Prim.Native.Nat.{_+_, _*_, _≤_};
 ghost use lib.ListN.{getD};
 ghost use Rattle.cards.specs.Rows.{from};
 ghost use Rattle.curves.specs.Curves.{words};
-ghost use Rattle.curves.specs.Planned.{bytesAt};
+ghost use Rattle.curves.specs.Planned.{valuesAt};
 ghost use Rattle.bodies.specs.Bodies.{slopeIn, stepsIn};
 
 // The byte at a place, and 0 behind the end.
@@ -18,7 +18,7 @@ pub(crate) fn byte_at(body: &[u8], at: usize) -> u8
 
 fn four_at(body: &[u8], at: usize) -> [u8; 4]
     requires { ⌜ at ≤ 5 ⌝ }
-    ensures { λ r. ⌜ r ≡ bytesAt (now (body .entry)) (from at 4) ⌝ }
+    ensures { λ r. ⌜ r ≡ valuesAt (now (body .entry)) (from at 4) ⌝ }
 {
     [
         byte_at(body, at),
@@ -40,7 +40,7 @@ fn word_at(body: &[u8], at: usize) -> u16
 
 // C1 to C5 stand behind B1 to B4.
 fn counts_at_4(body: &[u8]) -> [u16; 5]
-    ensures { λ r. ⌜ r ≡ words (bytesAt (now (body .entry)) (from 4 10)) ⌝ }
+    ensures { λ r. ⌜ r ≡ words (valuesAt (now (body .entry)) (from 4 10)) ⌝ }
 {
     [
         word_at(body, 4),

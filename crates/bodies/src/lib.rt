@@ -6,7 +6,7 @@ use cards::Chip;
 use curves::NO_SLOPE;
 use curves::NO_STEPS;
 use curves::Plan;
-ghost use Rattle.bodies.specs.Bodies.{Decodes, Encodes};
+ghost use Rattle.bodies.specs.Contracts.{Decodes, EncodesByte};
 
 // The plan whose curve stands in a body's bytes. What a short body lacks counts as 0.
 pub fn plan_of(chip: Chip, table: u8, body: &[u8]) -> Plan
@@ -36,7 +36,7 @@ pub fn plan_of(chip: Chip, table: u8, body: &[u8]) -> Plan
 
 // The byte at a place of a plan's body, and 0 behind its end.
 pub fn byte_of(chip: Chip, plan: Plan, k: usize) -> u8
-    ensures { λ r. ⌜ Encodes chip plan k r ⌝ }
+    ensures { λ r. ⌜ EncodesByte chip plan k r ⌝ }
 {
     match chip {
         Chip::Nct7802y => {

@@ -5,13 +5,13 @@ use native.Mathlib.Nat.{add-zero, zero-add, add-suc, suc-add, le-of-suc-le-suc, 
 use mathlib.Core.Path.{_≡_, refl, sym, ap, _∙_}
 use mathlib.Core.List.{List, _∷_}
 use lib.ListN.{length, getD, take}
-use Rattle.cards.specs.Rows.{Line, Row, row, masksIn, rowIn, run, column}
+use Rattle.cards.specs.Rows.{Line, Row, row, masksIn, rowIn, eachFrom, column}
 
-pub run-length : (f : ℕ → ℕ) (first n : ℕ) → length (run f first n) ≡ n
+pub run-length : (f : ℕ → ℕ) (first n : ℕ) → length (eachFrom f first n) ≡ n
 run-length f first zero = refl
 run-length f first (suc n) = ap suc (run-length f (suc first) n)
 
-pub run-at : (f : ℕ → ℕ) (first n k : ℕ) → k < n → getD (run f first n) k 0 ≡ f (first + k)
+pub run-at : (f : ℕ → ℕ) (first n k : ℕ) → k < n → getD (eachFrom f first n) k 0 ≡ f (first + k)
 run-at f first zero k h = absurd (not-suc-le-zero h)
 run-at f first (suc n) zero h = ap f (sym (add-zero first))
 run-at f first (suc n) (suc k) h =
@@ -25,7 +25,7 @@ pub column-at : (n : ℕ) (f : ℕ → ℕ) (position : ℕ) → position < n �
 unfolding column
 column-at n f position h = run-at f 0 n position h ∙ ap f (zero-add position)
 
-run-front : (f : ℕ → ℕ) (first m n : ℕ) → n ≤ m → take n (run f first m) ≡ run f first n
+run-front : (f : ℕ → ℕ) (first m n : ℕ) → n ≤ m → take n (eachFrom f first m) ≡ eachFrom f first n
 run-front f first m zero h = refl
 run-front f first zero (suc n) h = absurd (not-suc-le-zero h)
 run-front f first (suc m) (suc n) h = ap (λ (l : List ℕ). f first ∷ l) (run-front f (suc first) m n (le-of-suc-le-suc h))

@@ -13,7 +13,8 @@ use Rattle.cards.specs.declared.types.Place.{Place}
 use Rattle.cards.specs.declared.types.Place.the-variants.{At, Nowhere}
 use Rattle.cards.specs.Rows.{Table, positions, rowIn, from, inARow}
 use Rattle.cards.specs.Sheets.{Sheet, hasTableIn, tableIn}
-use Rattle.cards.specs.Cards.{sheetOf, sizeOf, rowOf, tablesOf, hasTable, tableOf, tableFrom, baseOf, Places}
+use Rattle.cards.specs.Cards.{sheetOf, sizeOf, rowOf, tablesOf, hasTable, tableOf, tableFrom, baseOf}
+use Rattle.cards.specs.Contracts.{Places}
 use Rattle.cards.proofs.Every.{every, both, of-every, distinct, apart}
 use Rattle.cards.proofs.Sound.{free, separate, consecutive, alike, Sound, sound-sheet}
 

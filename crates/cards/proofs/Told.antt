@@ -8,7 +8,8 @@ use Rattle.cards.specs.declared.types.Named.{Named}
 use Rattle.cards.specs.declared.types.Named.the-variants.{Known, Unknown}
 use Rattle.cards.specs.declared.types.Place.{Place}
 use Rattle.cards.specs.declared.types.Place.the-variants.{At, Nowhere}
-use Rattle.cards.specs.Cards.{chipOf, whenKnown, unknown, hasTable, baseOf, tellsNamed, tellsPlace, Names, Places}
+use Rattle.cards.specs.Cards.{chipOf, whenKnown, unknown, hasTable, baseOf, tellsNamed, tellsPlace}
+use Rattle.cards.specs.Contracts.{Names, Places}
 use Rattle.cards.proofs.Numbers.{chip-number}
 
 -- 0 and the number itself where it names a chip, else 3 and 0

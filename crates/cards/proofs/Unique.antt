@@ -8,7 +8,7 @@ use Rattle.cards.specs.declared.types.Place.{Place}
 use Rattle.cards.specs.declared.types.Masks.{Masks}
 use Rattle.cards.specs.declared.types.Required.{Required}
 use Rattle.cards.specs.declared.types.Sizes.{Sizes}
-use Rattle.cards.specs.Cards.{Names, Finds, PowersOn, Measures, Requires, Places}
+use Rattle.cards.specs.Contracts.{Names, Finds, PowersOn, TellsSizes, Requires, Places}
 
 pub names-unique : {number : ℕ} {r s : Named} → Names number r → Names number s → r ≡ s
 names-unique p q = p .answer ∙ sym (q .answer)
@@ -19,7 +19,7 @@ finds-unique p q = p .answer ∙ sym (q .answer)
 pub powers-on-unique : {chip : Chip} {position r s : ℕ} → PowersOn chip position r → PowersOn chip position s → r ≡ s
 powers-on-unique p q = p .answer ∙ sym (q .answer)
 
-pub measures-unique : {chip : Chip} {r s : Sizes} → Measures chip r → Measures chip s → r ≡ s
+pub measures-unique : {chip : Chip} {r s : Sizes} → TellsSizes chip r → TellsSizes chip s → r ≡ s
 measures-unique p q = p .answer ∙ sym (q .answer)
 
 pub requires-unique : {chip : Chip} {k : ℕ} {r s : Required} → Requires chip k r → Requires chip k s → r ≡ s

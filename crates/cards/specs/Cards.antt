@@ -2,7 +2,6 @@
 -- Assumes nothing.
 use Prim.Native.Nat.{ℕ}
 use mathlib.Core.Bool.{Bool, true, false, cond, not}
-use mathlib.Core.Path.{_≡_}
 use mathlib.Core.List.{List, [], _∷_}
 use lib.Dec.{eqb}
 use lib.ListN.{length, getD}
@@ -10,13 +9,10 @@ use Rattle.cards.specs.declared.types.Chip.{Chip}
 use Rattle.cards.specs.declared.types.Chip.the-variants.{Nct7802y, F75373s, Nct80}
 use Rattle.cards.specs.declared.types.Named.{Named}
 use Rattle.cards.specs.declared.types.Named.the-variants.{Known, Unknown}
-use Rattle.cards.specs.declared.types.Masks.{Masks}
-use Rattle.cards.specs.declared.types.Required.{Required}
-use Rattle.cards.specs.declared.types.Sizes.{Sizes}
 use Rattle.cards.specs.declared.types.Place.{Place}
 use Rattle.cards.specs.declared.types.Place.the-variants.{At, Nowhere}
-use Rattle.cards.specs.Rows.{Line, Row, Table, inARow, masksIn, requiredIn, rowIn}
-use Rattle.cards.specs.Sheets.{Sheet, sizesIn, powerOnIn, hasTableIn, tableIn}
+use Rattle.cards.specs.Rows.{Line, Row, Table, inARow, rowIn}
+use Rattle.cards.specs.Sheets.{Sheet, powerOnIn, hasTableIn, tableIn}
 use Rattle.cards.specs.Nct7802y as nct7802y
 use Rattle.cards.specs.F75373s as f75373s
 use Rattle.cards.specs.Nct80 as nct80
@@ -101,27 +97,3 @@ notOfSize chip size = not (eqb size (whenKnown (chipOf chip) sizeOf 0))
 
 abbrev pub notAnImage : ℕ → List ℕ → Bool
 notAnImage chip image = notOfSize chip (length image)
-
--- what `cards::chip_of` promises
-pub record Names (number : ℕ) (named : Named) : Type 0 where
-  pub answer : named ≡ chipOf number
-
--- what `cards::masks_of` promises
-pub record Finds (chip : Chip) (position : ℕ) (masks : Masks) : Type 0 where
-  pub answer : masks ≡ masksIn (rowOf chip position)
-
--- what `cards::power_on_of` promises
-pub record PowersOn (chip : Chip) (position byte : ℕ) : Type 0 where
-  pub answer : byte ≡ rowOf chip position .power
-
--- what `cards::sizes_of` promises
-pub record Measures (chip : Chip) (sizes : Sizes) : Type 0 where
-  pub answer : sizes ≡ sizesIn (sheetOf chip)
-
--- what `cards::required_of` promises
-pub record Requires (chip : Chip) (k : ℕ) (required : Required) : Type 0 where
-  pub answer : required ≡ requiredIn (sheetOf chip .identity) k
-
--- what `cards::table_at` promises
-pub record Places (chip : Chip) (number : ℕ) (place : Place) : Type 0 where
-  pub answer : place ≡ cond (hasTable chip number) (At (baseOf chip number)) Nowhere

@@ -56,13 +56,13 @@ rowIn [] address = row 0x00 0x00 0x00
 rowIn (l ∷ ls) address = cond (eqb (l .0) address) (row (l .1) (l .2) (l .3)) (rowIn ls address)
 
 -- a number for each of n addresses, from the first one on
-abbrev pub run : (ℕ → ℕ) → ℕ → ℕ → List ℕ
-run f first zero = []
-run f first (suc n) = f first ∷ run f (suc first) n
+abbrev pub eachFrom : (ℕ → ℕ) → ℕ → ℕ → List ℕ
+eachFrom f first zero = []
+eachFrom f first (suc n) = f first ∷ eachFrom f (suc first) n
 
 -- n addresses in a row
 abbrev pub from : ℕ → ℕ → List ℕ
-from first n = run (λ address. address) first n
+from first n = eachFrom (λ address. address) first n
 
 -- a table whose registers stand in a row
 abbrev pub inARow : ℕ → ℕ → ℕ → Table
@@ -70,4 +70,4 @@ inARow base settings speeds = record { settings = from base settings; speeds = f
 
 -- a number for each of n positions, as "each of the 256 addresses"
 unfoldable pub column : ℕ → (ℕ → ℕ) → List ℕ
-column n f = run f 0 n
+column n f = eachFrom f 0 n

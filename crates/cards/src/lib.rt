@@ -11,7 +11,7 @@ pub use types::Named;
 pub use types::Place;
 pub use types::Required;
 pub use types::Sizes;
-ghost use Rattle.cards.specs.Cards.{Names, Finds, PowersOn, Measures, Requires, Places};
+ghost use Rattle.cards.specs.Contracts.{Names, Finds, PowersOn, TellsSizes, Requires, Places};
 
 // The chip of a chip number, and none for every other number.
 pub fn chip_of(number: u8) -> Named
@@ -49,7 +49,7 @@ pub fn power_on_of(chip: Chip, position: usize) -> u8
 
 // How long the chip's image and its identity are. Where identity looks at no register, nothing is confirmed.
 pub fn sizes_of(chip: Chip) -> Sizes
-    ensures { λ r. ⌜ Measures chip r ⌝ }
+    ensures { λ r. ⌜ TellsSizes chip r ⌝ }
 {
     match chip {
         Chip::Nct7802y => nct7802y::SIZES,

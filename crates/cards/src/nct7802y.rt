@@ -13,7 +13,7 @@ use clears::CLEARS;
 use power_on::POWER_ON;
 use writable::WRITABLE;
 ghost use mathlib.Core.Path.{_≡_};
-ghost use Rattle.cards.specs.Cards.{Places};
+ghost use Rattle.cards.specs.Contracts.{Places};
 ghost use Rattle.cards.specs.declared.types.Chip.the-variants.{Nct7802y};
 ghost use Rattle.cards.specs.Nct7802y.{card, identity};
 ghost use Rattle.cards.specs.Rows.{masksIn, requiredIn, rowIn};

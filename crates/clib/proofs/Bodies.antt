@@ -17,18 +17,20 @@ use Rattle.curves.specs.declared.Plan.{Plan}
 use Rattle.plans.specs.declared.Asked.{Asked}
 use Rattle.plans.specs.declared.Asked.the-variants as asked
 use Rattle.bodies.specs.Bodies.{decoded}
-use Rattle.plans.specs.Plans.{askPlanChecks, orderChecks, planChecks, AsksPlan, AsksPlanBy}
+use Rattle.plans.specs.Contracts.{askPlanChecks, orderChecks, planChecks, AsksPlan, AsksPlanBy}
 use Rattle.records.specs.declared.Found.{Found}
 use Rattle.curves.specs.Values.{Sized}
-use Rattle.records.specs.Records.{encoded, planOf, bodyChecks, bodyPlanChecks, roomChecks, writeChecks, Plans, Writes, WritesBy}
+use Rattle.records.specs.Records.{encoded, planOf}
+use Rattle.records.specs.Contracts.{bodyChecks, bodyPlanChecks, roomChecks, writeChecks, TakesBody, WritesRecord, WritesRecordBy}
 use Rattle.records.proofs.Answers.{whole-asked, whole-judged, plan-taken}
 use Rattle.bodies.proofs.Laws.{decoded-sized}
-use Rattle.scripts.specs.Scripts.{scriptFor, scriptChecks, Scripts, ScriptsBy}
-use Rattle.plays.specs.Plays.{startChecks, playChecks, Plays, PlaysBy}
+use Rattle.scripts.specs.Scripts.{scriptFor}
+use Rattle.scripts.specs.Contracts.{scriptChecks, Scripts, ScriptsBy}
+use Rattle.plays.specs.Contracts.{startChecks, playChecks, Plays, PlaysBy}
 use Rattle.clib.specs.Bodies.{writeBodyChecks, scriptBodyChecks, playBodyChecks}
 
 -- a body that is refused
-module _ (chip table : ℕ) (body : List ℕ) (refusal : Refusal) (found : Found) (P : Plans chip table body found) (e : found .answer ≡ counted.Refused refusal) where
+module _ (chip table : ℕ) (body : List ℕ) (refusal : Refusal) (found : Found) (P : TakesBody chip table body found) (e : found .answer ≡ counted.Refused refusal) where
   pub body-refused : numberOf refusal ≡ first (bodyChecks chip table body)
   body-refused = ap (λ (t : ℕ × ℕ). t .0) (ap tellsCount (sym e) ∙ P .answer)
 
@@ -42,7 +44,7 @@ module _ (chip table : ℕ) (body : List ℕ) (refusal : Refusal) (found : Found
   pub asks-refused : (t : ℕ) → AsksPlanBy (bodyChecks chip table body) (planOf chip table body) t (asked.Refused refusal)
   asks-refused t = record { answer = told-refused refusal (bodyChecks chip table body) _ body-refused }
 
-  pub write-refused : (old : List ℕ) → WritesBy (writeBodyChecks chip table body old) (planOf chip table body) old (counted.Refused refusal) old
+  pub write-refused : (old : List ℕ) → WritesRecordBy (writeBodyChecks chip table body old) (planOf chip table body) old (counted.Refused refusal) old
   write-refused old =
       let all = by-all (roomChecks (length (encoded (planOf chip table body))) old) in
       record { answer = told-refused refusal (writeBodyChecks chip table body old) _ all; bytes = when-refused refusal _ old all }
@@ -65,7 +67,7 @@ pub record Crossed (chip table : ℕ) (body : List ℕ) (plan : Plan) : Type 0 w
   pub asks : first (askPlanChecks (planOf chip table body)) ≡ first (bodyChecks chip table body)
   pub checks : (more : List Check) → first (planChecks (planOf chip table body) ++ more) ≡ first (bodyPlanChecks chip table body ++ more)
 
-pub crossed : (chip table : ℕ) (body : List ℕ) (n : ℕ) (found : Found) → Plans chip table body found → found .answer ≡ counted.Of n
+pub crossed : (chip table : ℕ) (body : List ℕ) (n : ℕ) (found : Found) → TakesBody chip table body found → found .answer ≡ counted.Of n
     → Crossed chip table body (found .plan)
 crossed chip table body n found P e =
     let T = plan-taken chip table body n found P e in
@@ -88,9 +90,9 @@ module _ (chip table : ℕ) (body : List ℕ) {plan : Plan} (C : Crossed chip ta
       let q : AsksPlan its t r = rw (C .same) at p in
       record { answer = q .answer ∙ same-told 0 _ (askPlanChecks its) (bodyChecks chip table body) (C .asks) }
 
-  pub write-crossed : {old new : List ℕ} {r : Count} → Writes plan old r new → WritesBy (writeBodyChecks chip table body old) its old r new
+  pub write-crossed : {old new : List ℕ} {r : Count} → WritesRecord plan old r new → WritesRecordBy (writeBodyChecks chip table body old) its old r new
   write-crossed {old} {new} {r} p =
-      let q : Writes its old r new = rw (C .same) at p in
+      let q : WritesRecord its old r new = rw (C .same) at p in
       let e = C .checks (roomChecks (length (encoded its)) old) in
       record {
         answer = q .answer ∙ same-told 0 _ (writeChecks its old) (writeBodyChecks chip table body old) e;

@@ -17,18 +17,19 @@ use Rattle.cards.specs.declared.types.Named.the-variants.{Known}
 use Rattle.cards.specs.declared.types.Place.{Place}
 use Rattle.cards.specs.Rows.{masksIn, requiredIn}
 use Rattle.cards.specs.Sheets.{sizesIn}
-use Rattle.cards.specs.Cards.{sheetOf, chipOf, unknown, hasTable, rowOf, baseOf, tellsNamed, tellsPlace, Names, Places}
+use Rattle.cards.specs.Cards.{sheetOf, chipOf, unknown, hasTable, rowOf, baseOf, tellsNamed, tellsPlace}
+use Rattle.cards.specs.Contracts.{Names, Places}
 use Rattle.cards.proofs.Told.{names-told, places-told}
 use Rattle.cards.specs.Identity.{confirmed}
-use Rattle.images.specs.Images.{imageChecks}
+use Rattle.images.specs.Contracts.{imageChecks}
 use Rattle.images.proofs.Admission.{admits-told}
-use Rattle.identities.specs.Identities.{identityChecks, Confirms}
+use Rattle.identities.specs.Contracts.{identityChecks, Confirms}
 use Rattle.readings.specs.Readings.{asWord, voltage}
 use Rattle.readings.proofs.RoundTrip.{steps-come-back, bytes-come-back-cleared}
 use Rattle.watch.specs.declared.Watch.{Watch}
 use Rattle.watch.specs.declared.Sampled.{Sampled}
 use Rattle.watch.specs.Alarm.{fresh, taken, isSample, acknowledged, shown, run, recorded}
-use Rattle.watch.specs.Promises as watch
+use Rattle.watch.specs.Contracts as watch
 use Rattle.curves.specs.Planned.{planned, asks, temperaturesInOrder, speedsInOrder}
 use Rattle.bodies.specs.Bodies.{body, decoded}
 use Rattle.records.proofs.RoundTrip.{read-written, written-read}
@@ -53,7 +54,7 @@ placed-answered chip number r p =
     by-test false = refl
 
 -- a refused sample leaves the watch as it was
-sample-answered : (w : Watch) (steps high hysteresis : ℤ) (r : Sampled) → watch.Samples w steps high hysteresis r → Answered (watch.sampleChecks steps) w (watch.tells r)
+sample-answered : (w : Watch) (steps high hysteresis : ℤ) (r : Sampled) → watch.Samples w steps high hysteresis r → Answered (watch.sampleChecks steps) w (watch.tellsSampled r)
 sample-answered w steps high hysteresis r p = told-answered w (taken w steps high hysteresis) (watch.sampleChecks steps) (p .answer ∙ by-test (isSample steps))
   where
     by-test : (b : Bool) → (first ((not b, 12) ∷ []), cond b (taken w steps high hysteresis) w) ≡ toldOr w ((not b, 12) ∷ []) (taken w steps high hysteresis)

@@ -15,20 +15,23 @@ use Rattle.cards.specs.Identity.{confirmed}
 use Rattle.curves.specs.declared.Plan.{Plan}
 use Rattle.curves.specs.Curves as curves
 use Rattle.curves.specs.Planned.{asks}
-use Rattle.plans.specs.Plans.{held, askImageChecks}
+use Rattle.plans.specs.Plans.{held}
+use Rattle.plans.specs.Contracts.{askImageChecks}
 use Rattle.images.specs.Bytes.{position, seen}
-use Rattle.images.specs.Images.{imageChecks}
-use Rattle.identities.specs.Identities.{identityChecks}
+use Rattle.images.specs.Contracts.{imageChecks}
+use Rattle.identities.specs.Contracts.{identityChecks}
 use Rattle.readings.specs.Readings as readings
-use Rattle.readings.specs.Promises.{stepsChecks, bytesChecks}
+use Rattle.readings.specs.Contracts.{stepsChecks, bytesChecks}
 use Rattle.watch.specs.declared.Watch.{Watch}
 use Rattle.watch.specs.Alarm as alarm
-use Rattle.watch.specs.Promises.{sampleChecks}
-use Rattle.records.specs.Records.{recordChecks, recordLength, chipIn, planIn, noPlan, roomChecks}
+use Rattle.watch.specs.Contracts.{sampleChecks}
+use Rattle.records.specs.Records.{recordLength, chipIn, planIn, noPlan}
+use Rattle.records.specs.Contracts.{recordChecks, roomChecks}
 use Rattle.translation.specs.Words.{decimal}
 use Rattle.translation.specs.Text.{textOf, endLine}
 use Rattle.clib.specs.Facts.{watchOf, factsOf}
-use Rattle.clib.specs.Packed.{packed, packs, YkRead, YkIdentity, YkSteps, YkBytes, YkMicrovolts, YkSample, YkAcknowledge, YkRun, YkReadRecord, YkAskedOfImage, YkTranslate}
+use Rattle.clib.specs.Packed.{packed, packs}
+use Rattle.clib.specs.Contracts.{YkRead, YkIdentity, YkSteps, YkBytes, YkMicrovolts, YkSample, YkAcknowledge, YkRun, YkReadRecord, YkAskedOfImage, YkTranslate}
 
 -- a call and what it is given; samples come with the limits 80 and 75
 pub data Call : Type 0 where
@@ -202,5 +205,5 @@ figures =
     ∷ []
 
 pub figures-hold : AllHold figures
-unfolding sheetOf agree figures factsOf position confirmed curves.words curves.slope curves.steps textOf endLine decimal
+unfolding sheetOf agree figures factsOf position confirmed curves.words curves.slope curves.stepRule textOf endLine decimal
 figures-hold = each figures refl

@@ -15,7 +15,8 @@ use Rattle.records.proofs.Unique as records
 use Rattle.scripts.proofs.Unique as scripts
 use Rattle.plays.proofs.Unique as plays
 use Rattle.translation.proofs.Unique as translation
-use Rattle.clib.specs.Packed.{packed, Answers, YkWrite, YkRead, YkReset, YkIdentity, YkSteps, YkBytes, YkMicrovolts, YkSample, YkAcknowledge, YkReadRecord, YkWriteRecord, YkAskedOfPlan, YkAskedOfImage, YkScript, YkPlay, YkTranslate, YkRun}
+use Rattle.clib.specs.Packed.{packed, Answers}
+use Rattle.clib.specs.Contracts.{YkWrite, YkRead, YkReset, YkIdentity, YkSteps, YkBytes, YkMicrovolts, YkSample, YkAcknowledge, YkReadRecord, YkWriteRecord, YkAskedOfPlan, YkAskedOfImage, YkScript, YkPlay, YkTranslate, YkRun}
 
 pub packed-refusal : (a b v w : ℕ) → a < 256 → b < 256 → packed a v ≡ packed b w → a ≡ b
 packed-refusal a b v w h k e = omega arith

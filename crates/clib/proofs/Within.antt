@@ -24,11 +24,14 @@ use Rattle.curves.specs.Curves.{points}
 use Rattle.curves.specs.Orders.{fulls}
 use Rattle.curves.specs.Planned.{planned}
 use Rattle.curves.specs.Values.{Sized}
-use Rattle.records.specs.Records.{roomChecks, writeChecks, encoded, recordLength, chipIn, Writes}
+use Rattle.records.specs.Records.{encoded, recordLength, chipIn}
+use Rattle.records.specs.Contracts.{roomChecks, writeChecks, WritesRecord}
 use Rattle.records.proofs.Encoding.{length-short, record-short}
-use Rattle.scripts.specs.Scripts.{scriptOf, scriptFor, fullOf, scriptChecks, Scripts}
-use Rattle.plays.specs.Plays.{playChecks, Plays}
-use Rattle.translation.specs.Text.{textOf, Translates}
+use Rattle.scripts.specs.Scripts.{scriptOf, scriptFor, fullOf}
+use Rattle.scripts.specs.Contracts.{scriptChecks, Scripts}
+use Rattle.plays.specs.Contracts.{playChecks, Plays}
+use Rattle.translation.specs.Text.{textOf}
+use Rattle.translation.specs.Contracts.{Translates}
 use Rattle.translation.proofs.Bound.{text-short}
 
 -- a value that is told is the value or 0
@@ -95,7 +98,7 @@ used-within bytes = by-name (chipOf (chipIn bytes))
     by-name Unknown = omega arith
 
 -- so what a call counts has room above the refusal number
-pub record-room : {plan : Plan} {old new : List ℕ} {r : Count} → Sized plan → Writes plan old r new → tellsCount r .1 < 2 ^ 56
+pub record-room : {plan : Plan} {old new : List ℕ} {r : Count} → Sized plan → WritesRecord plan old r new → tellsCount r .1 < 2 ^ 56
 record-room {plan} {old} sized p =
     told-within (writeChecks plan old) (length (encoded plan)) (2 ^ 56) (omega (arith, record-short plan sized)) (p .answer)
 

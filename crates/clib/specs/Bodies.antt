@@ -5,9 +5,10 @@ use Prim.Native.Nat.{ℕ, _*_}
 use mathlib.Core.List.{List, _++_}
 use lib.ListN.{length}
 use Rattle.refusal.specs.Checks.{Check}
-use Rattle.records.specs.Records.{planOf, encoded, bodyPlanChecks, roomChecks}
+use Rattle.records.specs.Records.{planOf, encoded}
+use Rattle.records.specs.Contracts.{bodyPlanChecks, roomChecks}
 use Rattle.scripts.specs.Scripts.{scriptFor}
-use Rattle.plays.specs.Plays.{startChecks}
+use Rattle.plays.specs.Contracts.{startChecks}
 
 -- 3, 4, 5, 6, 7 "and then 9"
 abbrev pub writeBodyChecks : ℕ → ℕ → List ℕ → List ℕ → List Check

@@ -11,43 +11,46 @@ use Rattle.refusal.specs.declared.Outcome.{Outcome}
 use Rattle.refusal.specs.declared.Outcome.the-variants.{Accepted}
 use Rattle.refusal.specs.declared.Count.{Count}
 use Rattle.refusal.specs.declared.Count.the-variants.{Of}
-use Rattle.refusal.specs.Refusals.{Numbers}
+use Rattle.refusal.specs.Contracts.{Numbers}
 use Rattle.refusal.specs.Answers.{tells, tellsCount}
 use Rattle.refusal.specs.Checks.{Check, first}
 use Rattle.cards.specs.declared.types.Chip.{Chip}
 use Rattle.cards.specs.declared.types.Named.{Named}
 use Rattle.cards.specs.declared.types.Named.the-variants.{Known}
 use Rattle.cards.specs.declared.types.Place.{Place}
-use Rattle.cards.specs.Cards.{chipOf, unknown, hasTable, tellsNamed, tellsPlace, Names, Finds, PowersOn, Measures, Requires, Places}
+use Rattle.cards.specs.Cards.{chipOf, unknown, hasTable, tellsNamed, tellsPlace}
+use Rattle.cards.specs.Contracts.{Names, Finds, PowersOn, TellsSizes, Requires, Places}
 use Rattle.cards.specs.Identity.{confirmed}
 use Rattle.images.specs.declared.Admitted.{Admitted}
 use Rattle.images.specs.declared.ByteRead.{ByteRead}
-use Rattle.images.specs.Images as images
-use Rattle.identities.specs.Identities.{identityChecks, Confirms}
+use Rattle.images.specs.Contracts as images
+use Rattle.identities.specs.Contracts.{identityChecks, Confirms}
 use Rattle.readings.specs.declared.Steps.{Steps}
 use Rattle.readings.specs.declared.Steps.the-variants.{Counted}
 use Rattle.readings.specs.declared.Bytes.{Bytes}
 use Rattle.readings.specs.declared.Bytes.the-variants.{Pair}
 use Rattle.readings.specs.Readings.{cleared}
-use Rattle.readings.specs.Promises as readings
+use Rattle.readings.specs.Contracts as readings
 use Rattle.watch.specs.declared.Behaviour.{Behaviour}
 use Rattle.watch.specs.declared.Watch.{Watch}
 use Rattle.watch.specs.declared.Sampled.{Sampled}
-use Rattle.watch.specs.Promises as watch
+use Rattle.watch.specs.Contracts as watch
 use Rattle.curves.specs.declared.Plan.{Plan}
 use Rattle.curves.specs.Values.{Sized}
-use Rattle.curves.specs.Planned as curves
-use Rattle.bodies.specs.Bodies as bodies
+use Rattle.curves.specs.Contracts as curves
+use Rattle.bodies.specs.Contracts as bodies
 use Rattle.plans.specs.declared.Asked.{Asked}
-use Rattle.plans.specs.Plans as plans
+use Rattle.plans.specs.Contracts as plans
 use Rattle.records.specs.declared.Found.{Found}
-use Rattle.records.specs.Records as records
-use Rattle.scripts.specs.Scripts as scripts
-use Rattle.plays.specs.Plays as plays
-use Rattle.translation.specs.Text as translation
+use Rattle.records.specs.Contracts as records
+use Rattle.records.specs.Records.{noPlan, own}
+use Rattle.scripts.specs.Contracts as scripts
+use Rattle.plays.specs.Contracts as plays
+use Rattle.translation.specs.Contracts as translation
+use Rattle.translation.specs.Text.{textOf}
 use Rattle.clib.specs.Facts.{watchOf, factsOf}
 use Rattle.clib.specs.Bodies.{writeBodyChecks, scriptBodyChecks, playBodyChecks}
-use Rattle.clib.specs.Packed.{YkWrite, YkRead, YkReset, YkIdentity, YkSteps, YkBytes, YkMicrovolts, YkSample, YkAcknowledge, YkRun, YkReadRecord, YkWriteRecord, YkAskedOfPlan, YkAskedOfImage, YkScript, YkPlay, YkTranslate}
+use Rattle.clib.specs.Contracts.{YkWrite, YkRead, YkReset, YkIdentity, YkSteps, YkBytes, YkMicrovolts, YkSample, YkAcknowledge, YkRun, YkReadRecord, YkWriteRecord, YkAskedOfPlan, YkAskedOfImage, YkScript, YkPlay, YkTranslate}
 
 -- Of an answer that tells a number and values: the number is that of the first check that applies, and where it is not 0 "zero in every other part of
 -- the answer" ..
@@ -82,29 +85,29 @@ pub record Demand1 : Type 0 where
   pub chip-of : (number : ℕ) (r : Named) → Names number r → Answered ((unknown number, 3) ∷ []) 0 (tellsNamed r)
   pub masks-of : (chip : Chip) (position : ℕ) → Given (λ masks. Finds chip position masks)
   pub power-on-of : (chip : Chip) (position : ℕ) → Given (λ byte. PowersOn chip position byte)
-  pub sizes-of : (chip : Chip) → Given (λ sizes. Measures chip sizes)
+  pub sizes-of : (chip : Chip) → Given (λ sizes. TellsSizes chip sizes)
   pub required-of : (chip : Chip) (k : ℕ) → Given (λ required. Requires chip k required)
   pub table-at : (chip : Chip) (number : ℕ) (r : Place) → Places chip number r → Answered ((not (hasTable chip number), 4) ∷ []) 0 (tellsPlace r)
   -- register images
   pub admit : (chip size : ℕ) (r : Admitted) → images.Admits chip size r → Answered (images.sizeChecks chip size) 0 (images.tellsAdmitted r)
-  pub write : (chip : ℕ) (old : List ℕ) (address byte : ℕ) (r : Outcome) (new : List ℕ) → images.Writes chip old address byte r new
+  pub write : (chip : ℕ) (old : List ℕ) (address byte : ℕ) (r : Outcome) (new : List ℕ) → images.WritesByte chip old address byte r new
       → Answered (images.imageChecks chip old) tt (verdict r) × Kept (tells r) old new
-  pub read : (chip : ℕ) (image : List ℕ) (address : ℕ) (r : ByteRead) → images.Reads chip image address r
+  pub read : (chip : ℕ) (image : List ℕ) (address : ℕ) (r : ByteRead) → images.ReadsByte chip image address r
       → Answered (images.imageChecks chip image) 0 (images.tellsByte r)
   pub reset : (chip : ℕ) (old : List ℕ) (r : Outcome) (new : List ℕ) → images.Resets chip old r new
       → Answered (images.imageChecks chip old) tt (verdict r) × Kept (tells r) old new
   pub confirm : (chip : ℕ) (image : List ℕ) (r : Outcome) → Confirms chip image r → Answered (identityChecks chip image) tt (verdict r)
   -- readings
-  pub steps-of : (width high low : ℕ) (r : Steps) → readings.Counts width high low r
+  pub steps-of : (width high low : ℕ) (r : Steps) → readings.CountsSteps width high low r
       → Answered (readings.stepsChecks width) (pos 0) (readings.tellsSteps r)
   pub as-word : (number : ℤ) → Given (λ word. readings.Encodes number word)
-  pub bytes-of : (width : ℕ) (steps : ℤ) (r : Bytes) → readings.Writes width steps r
+  pub bytes-of : (width : ℕ) (steps : ℤ) (r : Bytes) → readings.GivesBytes width steps r
       → Answered (readings.bytesChecks width steps) (0, 0) (readings.tellsBytes r)
   pub microvolts : (word : ℕ) → Given (λ v. readings.Measures word v)
   -- the watch: "a watch comes back unchanged"
   pub watch-new : (behaviour : Behaviour) → Given (λ w. watch.Starts behaviour w)
   pub watch-sample : (w : Watch) (steps high hysteresis : ℤ) (r : Sampled) → watch.Samples w steps high hysteresis r
-      → Answered (watch.sampleChecks steps) w (watch.tells r)
+      → Answered (watch.sampleChecks steps) w (watch.tellsSampled r)
   pub watch-acknowledge : (w : Watch) → Given (λ r. watch.Acknowledges w r)
   pub watch-output : (w : Watch) → Given (λ r. watch.Shows w r)
   pub watch-run : (w : Watch) (samples : List ℤ) (high hysteresis : ℤ) → Given (λ r. watch.Runs w samples high hysteresis r)
@@ -113,23 +116,23 @@ pub record Demand1 : Type 0 where
   pub temperatures-in-order : (chip : Chip) (plan : Plan) → Given (λ r. curves.OrdersTemperatures chip plan r)
   pub speeds-in-order : (chip : Chip) (plan : Plan) → Given (λ r. curves.OrdersSpeeds chip plan r)
   pub plan-of : (chip : Chip) (table : ℕ) (bytes : List ℕ) → Given (λ plan. bodies.Decodes chip table bytes plan)
-  pub byte-of : (chip : Chip) (plan : Plan) (k : ℕ) → Given (λ byte. bodies.Encodes chip plan k byte)
+  pub byte-of : (chip : Chip) (plan : Plan) (k : ℕ) → Given (λ byte. bodies.EncodesByte chip plan k byte)
   pub judge : (plan : Plan) (r : Outcome) → plans.Judges plan r → Answered (plans.planChecks plan) tt (verdict r)
   pub asked-of-plan : (plan : Plan) (t : ℕ) (r : Asked) → plans.AsksPlan plan t r → Answered (plans.askPlanChecks plan) 0 (plans.tellsAsked r)
   pub asked-of-image : (chip table : ℕ) (image : List ℕ) (t : ℕ) (r : Asked) → plans.AsksImage chip table image t r
       → Answered (plans.askImageChecks chip table image) 0 (plans.tellsAsked r)
   -- records, scripts, plays and texts
-  pub plan-from : (chip table : ℕ) (body : List ℕ) (r : Found) → records.Plans chip table body r
-      → Answered (records.bodyChecks chip table body) (0, records.noPlan) (tellsFound r)
-  pub read-record : (bytes : List ℕ) (r : Found) → records.Reads bytes r → Answered (records.recordChecks bytes) (0, records.noPlan) (tellsFound r)
-  pub write-record : (plan : Plan) (old : List ℕ) (r : Count) (new : List ℕ) → records.Writes plan old r new
+  pub plan-from : (chip table : ℕ) (body : List ℕ) (r : Found) → records.TakesBody chip table body r
+      → Answered (records.bodyChecks chip table body) (0, noPlan) (tellsFound r)
+  pub read-record : (bytes : List ℕ) (r : Found) → records.ReadsRecord bytes r → Answered (records.recordChecks bytes) (0, noPlan) (tellsFound r)
+  pub write-record : (plan : Plan) (old : List ℕ) (r : Count) (new : List ℕ) → records.WritesRecord plan old r new
       → Answered (records.writeChecks plan old) 0 (tellsCount r) × Kept (tellsCount r .0) old new
   pub script : (plan : Plan) (old : List ℕ) (r : Count) (new : List ℕ) → scripts.Scripts plan old r new
       → Answered (scripts.scriptChecks plan old) 0 (tellsCount r) × Kept (tellsCount r .0) old new
   pub play : (plan : Plan) (old : List ℕ) (count : ℕ) (r : Count) (new : List ℕ) → plays.Plays plan old count r new
       → Answered (plays.playChecks plan old) 0 (tellsCount r) × Kept (tellsCount r .0) old new
   pub translate : (input old : List ℕ) (r : Count) (new : List ℕ) → translation.Translates input old r new
-      → Answered (records.roomChecks (length (translation.textOf input)) old) 0 (tellsCount r) × Kept (tellsCount r .0) old new
+      → Answered (records.roomChecks (length (textOf input)) old) 0 (tellsCount r) × Kept (tellsCount r .0) old new
   -- the C boundary
   pub yk-write : (chip : ℕ) (old : List ℕ) (address byte r : ℕ) (new : List ℕ) → YkWrite chip old address byte r new
       → Answered (images.imageChecks chip old) 0 (unpacked r) × Kept (unpacked r .0) old new
@@ -157,20 +160,20 @@ pub record Demand1 : Type 0 where
   pub yk-play : (chip table : ℕ) (body old : List ℕ) (count r : ℕ) (new : List ℕ) → YkPlay chip table body old count r new
       → Answered (playBodyChecks chip table body old) 0 (unpacked r) × Kept (unpacked r .0) old new
   pub yk-translate : (input old : List ℕ) (r : ℕ) (new : List ℕ) → YkTranslate input old r new
-      → Answered (records.roomChecks (length (translation.textOf input)) old) 0 (unpacked r) × Kept (unpacked r .0) old new
+      → Answered (records.roomChecks (length (textOf input)) old) 0 (unpacked r) × Kept (unpacked r .0) old new
 
 pub record Demand2 : Type 0 where
   -- "Temperatures go from bytes to steps and back, ignored bits aside": the bytes of n steps are counted as n ..
-  pub steps-and-back : (width high low : ℕ) (n : ℤ) (r : Steps) → readings.Writes width n (Pair high low) → readings.Counts width high low r → r ≡ Counted n
+  pub steps-and-back : (width high low : ℕ) (n : ℤ) (r : Steps) → readings.GivesBytes width n (Pair high low) → readings.CountsSteps width high low r → r ≡ Counted n
   -- .. and bytes that are counted as n are, but for the ignored bits, the bytes of n steps
-  pub bytes-and-back : (width high low : ℕ) (n : ℤ) (r : Bytes) → high < 256 → low < 256 → readings.Counts width high low (Counted n) → readings.Writes width n r
+  pub bytes-and-back : (width high low : ℕ) (n : ℤ) (r : Bytes) → high < 256 → low < 256 → readings.CountsSteps width high low (Counted n) → readings.GivesBytes width n r
       → r ≡ Pair (cleared width high low .0) (cleared width high low .1)
   -- "plan records go to plans and back": the plan of a record has that record, where there is room for it ..
   pub record-and-back : (bytes : List ℕ) (n : ℕ) (found : Found) (old : List ℕ) (r : Count) (new : List ℕ) → ((k : ℕ) → getD bytes k 0 < 256)
-      → records.Reads bytes found → found .answer ≡ Of n → records.Writes (found .plan) old r new → n ≤ length old
+      → records.ReadsRecord bytes found → found .answer ≡ Of n → records.WritesRecord (found .plan) old r new → n ≤ length old
       → (r ≡ Of n) × (new ≡ take n bytes ++ drop n old)
   -- .. and the record of a plan has that plan, without the other chip's values
   pub plan-and-back : (plan : Plan) (old : List ℕ) (n : ℕ) (new : List ℕ) (found : Found) → Sized plan
-      → records.Writes plan old (Of n) new → records.Reads new found → (found .answer ≡ Of n) × (found .plan ≡ records.own plan)
+      → records.WritesRecord plan old (Of n) new → records.ReadsRecord new found → (found .answer ≡ Of n) × (found .plan ≡ own plan)
   -- "A chip is accepted only if every identity bit agrees."
   pub every-bit : (number : ℕ) (chip : Chip) (image : List ℕ) → chipOf number ≡ Known chip → Confirms number image Accepted → confirmed chip image ≡ true

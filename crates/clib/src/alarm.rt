@@ -3,7 +3,8 @@ use crate::facts;
 use crate::packing;
 use watch::Sampled;
 ghost use mathlib.Core.Path.{_≡_};
-ghost use Rattle.clib.specs.Packed.{packsSampled, YkSample, YkAcknowledge, YkRun};
+ghost use Rattle.clib.specs.Packed.{packsSampled};
+ghost use Rattle.clib.specs.Contracts.{YkSample, YkAcknowledge, YkRun};
 
 // "a watch comes back unchanged": a refused sample answers the facts too.
 fn of_sampled(sampled: Sampled) -> u64

@@ -1,7 +1,7 @@
 // The speed that a plan, or the curve in an image, asks at a temperature.
 use crate::packing;
 use refusal::Count;
-ghost use Rattle.clib.specs.Packed.{YkAskedOfPlan, YkAskedOfImage};
+ghost use Rattle.clib.specs.Contracts.{YkAskedOfPlan, YkAskedOfImage};
 
 #[no_mangle]
 pub extern "C" fn yk_asked_of_plan(chip: u8, table: u8, body: &[u8], t: u8) -> u64

@@ -1,7 +1,7 @@
 // Plan records: read from bytes, and written to a lent buffer.
 use crate::packing;
 use refusal::Count;
-ghost use Rattle.clib.specs.Packed.{YkReadRecord, YkWriteRecord};
+ghost use Rattle.clib.specs.Contracts.{YkReadRecord, YkWriteRecord};
 
 // The caller has the body, from the fifth of the bytes used on.
 #[no_mangle]

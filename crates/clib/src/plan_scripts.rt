@@ -3,9 +3,10 @@ use crate::packing;
 use refusal::Count;
 ghost use mathlib.Core.Path.{_≡_};
 ghost use Rattle.refusal.specs.Checks.{first};
-ghost use Rattle.records.specs.Records.{planOf, bodyChecks};
+ghost use Rattle.records.specs.Records.{planOf};
+ghost use Rattle.records.specs.Contracts.{bodyChecks};
 ghost use Rattle.plays.specs.NeverSlower.{Safely};
-ghost use Rattle.clib.specs.Packed.{YkScript, YkPlay};
+ghost use Rattle.clib.specs.Contracts.{YkScript, YkPlay};
 
 #[no_mangle]
 pub extern "C" fn yk_script(chip: u8, table: u8, body: &[u8], out: &mut [u8]) -> u64

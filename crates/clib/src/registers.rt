@@ -1,6 +1,6 @@
 // Register images: written, read, reset, and asked whose they are.
 use crate::packing;
-ghost use Rattle.clib.specs.Packed.{YkWrite, YkRead, YkReset, YkIdentity};
+ghost use Rattle.clib.specs.Contracts.{YkWrite, YkRead, YkReset, YkIdentity};
 
 #[no_mangle]
 pub extern "C" fn yk_write(chip: u8, image: &mut [u8], address: u8, byte: u8) -> u64

@@ -1,6 +1,6 @@
 // Temperatures of a width, and the NCT80's voltages.
 use crate::packing;
-ghost use Rattle.clib.specs.Packed.{YkSteps, YkBytes, YkMicrovolts};
+ghost use Rattle.clib.specs.Contracts.{YkSteps, YkBytes, YkMicrovolts};
 
 #[no_mangle]
 pub extern "C" fn yk_steps(width: u8, high: u8, low: u8) -> u64

@@ -1,6 +1,6 @@
 // The text of plan records.
 use crate::packing;
-ghost use Rattle.clib.specs.Packed.{YkTranslate};
+ghost use Rattle.clib.specs.Contracts.{YkTranslate};
 
 #[no_mangle]
 pub extern "C" fn yk_translate(input: &[u8], out: &mut [u8]) -> u64

@@ -9,18 +9,18 @@ use lib.Seq.{drop-cons, take-all, take-at, getD-at}
 use Rattle.cards.specs.Rows.{from}
 use Rattle.cards.specs.declared.types.Chip.the-variants.{Nct7802y, F75373s}
 use Rattle.curves.specs.declared.Plan.{Plan}
-use Rattle.curves.specs.Curves.{degree, points, slope, steps}
-use Rattle.curves.specs.Planned.{planned, bytesAt, asks}
+use Rattle.curves.specs.Curves.{degree, points, slope, stepRule}
+use Rattle.curves.specs.Planned.{planned, valuesAt, asks}
 use Rattle.curves.proofs.StepLaws.{words-halves}
 
 -- what stands at n places in a row is a part of the list
-pub in-a-row : (l : List ℕ) (k n : ℕ) → k + n ≤ length l → bytesAt l (from k n) ≡ take n (drop k l)
+pub in-a-row : (l : List ℕ) (k n : ℕ) → k + n ≤ length l → valuesAt l (from k n) ≡ take n (drop k l)
 in-a-row l k zero h = refl
 in-a-row l k (suc n) h =
     ap (λ (m : List ℕ). getD l k 0 ∷ m) (in-a-row l (suc k) n (omega arith)) ∙ sym (ap (take (suc n)) (drop-cons l k 0 (omega arith)))
 
 -- so a list of n numbers is what stands at its n places
-pub spelled : (l : List ℕ) (n : ℕ) → length l ≡ n → bytesAt l (from 0 n) ≡ l
+pub spelled : (l : List ℕ) (n : ℕ) → length l ≡ n → valuesAt l (from 0 n) ≡ l
 spelled l n h = in-a-row l 0 n (omega arith) ∙ take-all n l (omega arith)
 
 -- a plan asks what the curve of its registers asks
@@ -30,5 +30,5 @@ pub planned-duty : (plan : Plan) (t : ℕ) → length (plan .slope .temperatures
 planned-duty plan t h =
     rw (take-at (plan .slope .temperatures) (plan .slope .critical ∷ []) 4 h, getD-at (plan .slope .temperatures) (plan .slope .critical) [] 0 4 h)
 
-pub planned-count : (plan : Plan) (t : ℕ) → steps (plan .steps .bounds) (plan .steps .counts) t ≡ asks F75373s (planned F75373s plan) t
+pub planned-count : (plan : Plan) (t : ℕ) → stepRule (plan .steps .bounds) (plan .steps .counts) t ≡ asks F75373s (planned F75373s plan) t
 planned-count plan t = rw (words-halves (plan .steps .counts))

@@ -5,7 +5,7 @@ use mathlib.Core.Path.{_≡_, sym, _∙_}
 use mathlib.Core.Bool.{Bool}
 use Rattle.cards.specs.declared.types.Chip.{Chip}
 use Rattle.curves.specs.declared.Plan.{Plan}
-use Rattle.curves.specs.Planned.{Asks, OrdersTemperatures, OrdersSpeeds}
+use Rattle.curves.specs.Contracts.{Asks, OrdersTemperatures, OrdersSpeeds}
 
 pub asks-unique : {chip : Chip} {plan : Plan} {t r s : ℕ} → Asks chip plan t r → Asks chip plan t s → r ≡ s
 asks-unique p q = p .answer ∙ sym (q .answer)

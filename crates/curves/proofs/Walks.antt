@@ -10,7 +10,7 @@ use borrow.Author.Tests.{le-leb, lt-leb, lt-ltb, le-ltb}
 use lib.Dec.{leb}
 use lib.ListN.{length, getD, drop, length-drop, drop-of-length-le}
 use lib.Seq.{drop-cons}
-use Rattle.curves.specs.Curves.{Point, points, mean, above, below, slope, steps}
+use Rattle.curves.specs.Curves.{Point, points, mean, above, below, slope, stepRule}
 use Rattle.curves.specs.Orders.{chained, lastAtMost}
 
 -- an order test that has come to the place k, behind a first value
@@ -115,19 +115,19 @@ module _ {full : ℕ} {ts ds : List ℕ} {t k : ℕ} (P : Passed full ts ds t k)
 pub record Stepped (bounds counts : List ℕ) (t k : ℕ) : Type 0 where
   pub within : k ≤ length bounds
   pub longer : length bounds < length counts
-  pub same : steps (drop k bounds) (drop k counts) t ≡ steps bounds counts t
+  pub same : stepRule (drop k bounds) (drop k counts) t ≡ stepRule bounds counts t
 
 pub stepped-start : (bounds counts : List ℕ) (t : ℕ) → length bounds < length counts → Stepped bounds counts t 0
 stepped-start bounds counts t h = record { within = omega arith; longer = h; same = refl }
 
 module _ {bounds counts : List ℕ} {t k : ℕ} (S : Stepped bounds counts t k) where
-  pub stepped-here : k < length bounds → getD bounds k 0 < t → getD counts k 0 ≡ steps bounds counts t
-  unfolding steps
+  pub stepped-here : k < length bounds → getD bounds k 0 < t → getD counts k 0 ≡ stepRule bounds counts t
+  unfolding stepRule
   stepped-here h l =
       sym (rw (drop-cons bounds k 0 h, drop-cons counts k 0 (omega (arith, S .longer)), lt-ltb (getD bounds k 0) t l)) ∙ S .same
 
   pub stepped-next : k < length bounds → t ≤ getD bounds k 0 → Stepped bounds counts t (k + 1)
-  unfolding steps
+  unfolding stepRule
   stepped-next h l =
       record {
         within = omega arith;
@@ -137,7 +137,7 @@ module _ {bounds counts : List ℕ} {t k : ℕ} (S : Stepped bounds counts t k) 
             (sym (rw (drop-cons bounds k 0 h, drop-cons counts k 0 (omega (arith, S .longer)), le-ltb (getD bounds k 0) t l)) ∙ S .same);
       }
 
-  pub stepped-last : length bounds ≤ k → getD counts k 0 ≡ steps bounds counts t
-  unfolding steps
+  pub stepped-last : length bounds ≤ k → getD counts k 0 ≡ stepRule bounds counts t
+  unfolding stepRule
   stepped-last h =
       sym (rw (drop-of-length-le bounds {i = k} h, drop-cons counts k 0 (omega (arith, S .longer, S .within)))) ∙ S .same

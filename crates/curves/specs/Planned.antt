@@ -1,14 +1,13 @@
 -- "Plans and what they ask": a plan's curve, when its values are in order and what it asks of its chip; and the contracts of `curves`.
 -- Assumes nothing.
 use Prim.Native.Nat.{ℕ}
-use mathlib.Core.Path.{_≡_}
 use mathlib.Core.Bool.{Bool, true, _&&_}
 use mathlib.Core.List.{List, [], _∷_, _++_, map}
 use lib.ListN.{getD, take}
 use Rattle.cards.specs.declared.types.Chip.{Chip}
 use Rattle.cards.specs.declared.types.Chip.the-variants.{Nct7802y, F75373s, Nct80}
 use Rattle.curves.specs.declared.Plan.{Plan}
-use Rattle.curves.specs.Curves.{degree, points, slope, steps, halves, words}
+use Rattle.curves.specs.Curves.{degree, points, slope, stepRule, halves, words}
 use Rattle.curves.specs.Orders.{rising, falling, neverFalls, lastAtMost}
 
 -- A curve as a fan table's registers hold it, in register order: its settings, then its speeds.
@@ -23,8 +22,8 @@ planned F75373s plan = record { settings = plan .steps .bounds; speeds = halves 
 planned Nct80 plan = record { settings = []; speeds = [] }
 
 -- the bytes that stand at positions
-abbrev pub bytesAt : List ℕ → List ℕ → List ℕ
-bytesAt bytes positions = map (λ position. getD bytes position 0) positions
+abbrev pub valuesAt : List ℕ → List ℕ → List ℕ
+valuesAt bytes positions = map (λ position. getD bytes position 0) positions
 
 -- n temperatures, then critical; "at T, from -128 to 127, for any values, ordered or not"
 abbrev pub askedDuty : ℕ → ℕ → Curve → ℕ → ℕ
@@ -35,7 +34,7 @@ askedDuty full n curve t =
 -- chip in its curve mode": fan mode bits are not asked.
 abbrev pub asks : Chip → Curve → ℕ → ℕ
 asks Nct7802y curve t = askedDuty 255 4 curve t
-asks F75373s curve t = steps (curve .settings) (words (curve .speeds)) t
+asks F75373s curve t = stepRule (curve .settings) (words (curve .speeds)) t
 asks Nct80 curve t = 0
 
 -- "Accepted if T1 < T2 < T3 < T4, T4 at most critical (else 6)"; "Accepted if B1 > B2 > B3 > B4 (else 6)"
@@ -50,15 +49,3 @@ abbrev pub speedsInOrder : Chip → Plan → Bool
 speedsInOrder Nct7802y plan = neverFalls (plan .slope .duties)
 speedsInOrder F75373s plan = neverFalls (plan .steps .counts)
 speedsInOrder Nct80 plan = true
-
--- what `curves::speed_of` promises
-pub record Asks (chip : Chip) (plan : Plan) (t r : ℕ) : Type 0 where
-  pub answer : r ≡ asks chip (planned chip plan) t
-
--- what `curves::temperatures_in_order` promises
-pub record OrdersTemperatures (chip : Chip) (plan : Plan) (r : Bool) : Type 0 where
-  pub answer : r ≡ temperaturesInOrder chip plan
-
--- what `curves::speeds_in_order` promises
-pub record OrdersSpeeds (chip : Chip) (plan : Plan) (r : Bool) : Type 0 where
-  pub answer : r ≡ speedsInOrder chip plan

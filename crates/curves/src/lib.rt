@@ -5,7 +5,7 @@ mod slope;
 mod steps;
 
 use cards::Chip;
-ghost use Rattle.curves.specs.Planned.{Asks, OrdersTemperatures, OrdersSpeeds};
+ghost use Rattle.curves.specs.Contracts.{Asks, OrdersTemperatures, OrdersSpeeds};
 
 // The values of chip 1: T1 to T4, critical, FL1 to FL4. Temperatures are bytes as their registers hold them, in two's complement.
 pub struct SlopeValues {

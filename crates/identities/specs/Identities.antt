@@ -1,23 +1,11 @@
 -- "Identity": when a chip is accepted as the owner of an image; and the contract of `identities`.
 -- Assumes nothing.
 use Prim.Native.Nat.{ℕ}
-use mathlib.Core.Path.{_≡_}
 use mathlib.Core.Bool.{Bool, false, not}
-use mathlib.Core.List.{List, [], _∷_}
-use Rattle.refusal.specs.declared.Outcome.{Outcome}
-use Rattle.refusal.specs.Answers.{tells}
-use Rattle.refusal.specs.Checks.{Check, first}
-use Rattle.cards.specs.Cards.{chipOf, whenKnown, unknown, notAnImage}
+use mathlib.Core.List.{List}
+use Rattle.cards.specs.Cards.{chipOf, whenKnown}
 use Rattle.cards.specs.Identity.{confirmed}
 
 -- refusal 10: "identity is not confirmed"
 abbrev pub unconfirmed : ℕ → List ℕ → Bool
 unconfirmed chip image = not (whenKnown (chipOf chip) (λ c. confirmed c image) false)
-
--- "identity 3, 8 and 10"
-abbrev pub identityChecks : ℕ → List ℕ → List Check
-identityChecks chip image = (unknown chip, 3) ∷ (notAnImage chip image, 8) ∷ (unconfirmed chip image, 10) ∷ []
-
--- what `identities::confirm` promises. The image is only read, so it holds what it held.
-pub record Confirms (chip : ℕ) (image : List ℕ) (r : Outcome) : Type 0 where
-  pub answer : tells r ≡ first (identityChecks chip image)

@@ -9,7 +9,7 @@ ghost use mathlib.Core.Path.{_≡_};
 ghost use lib.ListN.{length};
 ghost use Rattle.cards.specs.Cards.{sizeOf};
 ghost use Rattle.cards.specs.Identity.{holds, confirmed};
-ghost use Rattle.identities.specs.Identities.{Confirms};
+ghost use Rattle.identities.specs.Contracts.{Confirms};
 
 fn holds(image: &[u8], required: Required) -> bool
     requires { ⌜ required .position < length (now image) ⌝ }

@@ -20,7 +20,7 @@ use Rattle.cards.specs.Cards.{chipOf, whenKnown, sizeOf}
 use Rattle.cards.proofs.Numbers.{chip-number}
 use Rattle.images.specs.declared.Admitted.{Admitted}
 use Rattle.images.specs.declared.Admitted.the-variants.{Known, Refused}
-use Rattle.images.specs.Images.{sizeChecks, imageChecks, tellsAdmitted, Admits}
+use Rattle.images.specs.Contracts.{sizeChecks, imageChecks, tellsAdmitted, Admits}
 
 -- the chip that was admitted
 pub record Chip-known (number : ℕ) (chip : Chip) (size : ℕ) : Type 0 where

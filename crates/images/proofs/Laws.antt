@@ -17,7 +17,7 @@ use Rattle.cards.specs.declared.types.Named.the-variants.{Known}
 use Rattle.cards.specs.Rows.{Row}
 use Rattle.cards.specs.Cards.{chipOf, rowOf, sizeOf}
 use Rattle.images.specs.Bytes.{storedBits, stored, storedAt, position, seen}
-use Rattle.images.specs.Images.{Writes}
+use Rattle.images.specs.Contracts.{WritesByte}
 
 -- the image keeps its length
 pub storedAt-length : (row : Row) (position byte : ℕ) (image : List ℕ) → length (storedAt row position byte image) ≡ length image
@@ -79,7 +79,7 @@ storedAt-closed row position byte image e f h =
 pub write-closed : (number : ℕ) (chip : Chip) (address byte : ℕ) (old : List ℕ) {r : Outcome} {new : List ℕ}
     → chipOf number ≡ Known chip → length old ≡ sizeOf chip
     → rowOf chip (position chip old address) .writable ≡ 0 → rowOf chip (position chip old address) .clears ≡ 0 → seen chip address old < 2 ^ 8
-    → Writes number old address byte r new → (tells r ≡ 0) × (new ≡ old)
+    → WritesByte number old address byte r new → (tells r ≡ 0) × (new ≡ old)
 write-closed number chip address byte old named long e f h p =
     let size = eq-eqb (length old) (sizeOf chip) long in
     let at = position chip old address in

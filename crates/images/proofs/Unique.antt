@@ -9,7 +9,7 @@ use Rattle.refusal.specs.declared.Outcome.{Outcome}
 use Rattle.images.specs.declared.Admitted.{Admitted}
 use Rattle.images.specs.declared.ByteRead.{ByteRead}
 use Rattle.images.specs.declared.ByteRead.the-variants as byteRead
-use Rattle.images.specs.Images.{tellsByte, Admits, Writes, Reads, Resets}
+use Rattle.images.specs.Contracts.{tellsByte, Admits, WritesByte, ReadsByte, Resets}
 
 pub tellsByte-injective : (r s : ByteRead) → tellsByte r ≡ tellsByte s → r ≡ s
 tellsByte-injective (byteRead.Byte b) (byteRead.Byte d) e = ap byteRead.Byte (ap (λ (t : ℕ × ℕ). t .1) e)
@@ -21,11 +21,11 @@ pub admits-unique : {chip size : ℕ} {r s : Admitted} → Admits chip size r �
 admits-unique p q = p .answer ∙ sym (q .answer)
 
 pub writes-unique : {chip : ℕ} {old : List ℕ} {address byte : ℕ} {r s : Outcome} {l m : List ℕ}
-    → Writes chip old address byte r l → Writes chip old address byte s m → (r ≡ s) × (l ≡ m)
+    → WritesByte chip old address byte r l → WritesByte chip old address byte s m → (r ≡ s) × (l ≡ m)
 writes-unique {r = r} {s = s} p q = (tells-injective r s (p .answer ∙ sym (q .answer)), p .bytes ∙ sym (q .bytes))
 
 pub reads-unique : {chip : ℕ} {image : List ℕ} {address : ℕ} {r s : ByteRead}
-    → Reads chip image address r → Reads chip image address s → r ≡ s
+    → ReadsByte chip image address r → ReadsByte chip image address s → r ≡ s
 reads-unique {r = r} {s = s} p q = tellsByte-injective r s (p .answer ∙ sym (q .answer))
 
 pub resets-unique : {chip : ℕ} {old : List ℕ} {r s : Outcome} {l m : List ℕ}

@@ -11,7 +11,7 @@ ghost use mathlib.Core.Path.{_≡_};
 ghost use lib.ListN.{length, take};
 ghost use Rattle.cards.specs.Rows.{column};
 ghost use Rattle.cards.specs.Cards.{rowOf};
-ghost use Rattle.images.specs.Images.{Admits, Writes, Reads, Resets};
+ghost use Rattle.images.specs.Contracts.{Admits, WritesByte, ReadsByte, Resets};
 
 // The chip that an image is asked of.
 pub enum Admitted {
@@ -42,7 +42,7 @@ pub fn admit(chip: u8, size: usize) -> Admitted
 
 // Writes a byte to an address of the image, as far as the chip's card lets it be written.
 pub fn write(chip: u8, image: &mut [u8], address: u8, byte: u8) -> Outcome
-    ensures { λ r. ⌜ Writes chip (now (image .entry)) address byte r (now (image .exit)) ⌝ }
+    ensures { λ r. ⌜ WritesByte chip (now (image .entry)) address byte r (now (image .exit)) ⌝ }
 {
     match admit(chip, image.len()) {
         Admitted::Refused(refusal) => Outcome::Refused(refusal),
@@ -55,7 +55,7 @@ pub fn write(chip: u8, image: &mut [u8], address: u8, byte: u8) -> Outcome
 
 // The byte at an address of the image.
 pub fn read(chip: u8, image: &[u8], address: u8) -> ByteRead
-    ensures { λ r. ⌜ Reads chip (now (image .entry)) address r ⌝ }
+    ensures { λ r. ⌜ ReadsByte chip (now (image .entry)) address r ⌝ }
 {
     match admit(chip, image.len()) {
         Admitted::Refused(refusal) => ByteRead::Refused(refusal),

@@ -9,7 +9,7 @@ use Rattle.refusal.specs.Checks.{first, toldOr}
 use Rattle.cards.specs.declared.types.Chip.{Chip}
 use Rattle.cards.specs.declared.types.Chip.the-variants.{Nct7802y, F75373s}
 use Rattle.readings.specs.Readings.{bytesOf, stepsAt}
-use Rattle.readings.specs.Promises.{stepsChecks, bytesChecks}
+use Rattle.readings.specs.Contracts.{stepsChecks, bytesChecks}
 use Rattle.watch.specs.declared.Behaviour.{Behaviour}
 use Rattle.watch.specs.declared.Behaviour.the-variants.{Default, OneTime}
 use Rattle.watch.specs.Alarm.{Event, sample, acknowledge, fresh, run}
@@ -92,6 +92,6 @@ starred =
     ∷ []
 
 pub starred-hold : AllHold starred
-unfolding mean above below slope curves.steps words
+unfolding mean above below slope curves.stepRule words
 starred-hold =
     (refl, (refl, (refl, (refl, (refl, (refl, (refl, (refl, (refl, (refl, (refl, (refl, (refl, (refl, (refl, (refl, (refl, (refl, (refl, (refl, (refl, (refl, (refl, (refl, (refl, (refl, (refl, (refl, (refl, (refl, tt))))))))))))))))))))))))))))))

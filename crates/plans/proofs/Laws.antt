@@ -17,7 +17,7 @@ use Rattle.curves.specs.declared.Plan.{Plan}
 use Rattle.curves.specs.Curves.{degree}
 use Rattle.curves.specs.Orders.{Each, fulls, MoreDuty}
 use Rattle.curves.specs.Planned.{planned, asks, temperaturesInOrder, speedsInOrder}
-use Rattle.plans.specs.Plans.{temperaturesOut, speedsOut, planChecks}
+use Rattle.plans.specs.Contracts.{temperaturesOut, speedsOut, planChecks}
 use Rattle.curves.proofs.SlopeLaws.{slope-never-falls}
 use Rattle.curves.proofs.StepLaws.{steps-never-rises, words-halves}
 

@@ -13,18 +13,18 @@ use Rattle.cards.specs.Cards.{sheetOf, hasTable, tableOf, tableFrom, baseOf}
 use Rattle.cards.specs.declared.types.Chip.{Chip}
 use Rattle.cards.specs.declared.types.Chip.the-variants.{Nct7802y, F75373s, Nct80}
 use Rattle.cards.proofs.Tables.{table-at-base}
-use Rattle.curves.specs.Curves.{steps, words}
-use Rattle.curves.specs.Planned.{Curve, planned, bytesAt, asks}
+use Rattle.curves.specs.Curves.{stepRule, words}
+use Rattle.curves.specs.Planned.{Curve, planned, valuesAt, asks}
 use Rattle.bodies.specs.Bodies.{decoded}
 use Rattle.plans.specs.Plans.{held}
 use Rattle.curves.proofs.Registers.{planned-count}
 
 -- what stands behind a base
-pub shifted : (l : List ℕ) (base k n : ℕ) → bytesAt (drop base l) (from k n) ≡ bytesAt l (from (base + k) n)
+pub shifted : (l : List ℕ) (base k n : ℕ) → valuesAt (drop base l) (from k n) ≡ valuesAt l (from (base + k) n)
 shifted l base k zero = refl
 shifted l base k (suc n) =
     ap₂ (λ (b : ℕ) (m : List ℕ). b ∷ m) (getD-drop base l k 0)
-    (shifted l base (suc k) n ∙ ap (λ (first : ℕ). bytesAt l (from first n)) (add-suc base k))
+    (shifted l base (suc k) n ∙ ap (λ (first : ℕ). valuesAt l (from first n)) (add-suc base k))
 
 -- the body that begins at a base asks what the registers of the table there ask
 base-asks : (chip : Chip) (table base : ℕ) (image : List ℕ) (t : ℕ)
@@ -32,11 +32,11 @@ base-asks : (chip : Chip) (table base : ℕ) (image : List ℕ) (t : ℕ)
 unfolding sheetOf
 base-asks Nct7802y table base image t =
     ap (λ (curve : Curve). asks Nct7802y curve t)
-    (λ i. record { settings = (shifted image base 0 5 ∙ ap (λ (first : ℕ). bytesAt image (from first 5)) (add-zero base)) i; speeds = shifted image base 5 4 i })
+    (λ i. record { settings = (shifted image base 0 5 ∙ ap (λ (first : ℕ). valuesAt image (from first 5)) (add-zero base)) i; speeds = shifted image base 5 4 i })
 base-asks F75373s table base image t =
     sym (planned-count (decoded F75373s table (drop base image)) t)
-    ∙ ap₂ (λ (bounds counts : List ℕ). steps bounds (words counts) t)
-    (shifted image base 0 4 ∙ ap (λ (first : ℕ). bytesAt image (from first 4)) (add-zero base))
+    ∙ ap₂ (λ (bounds counts : List ℕ). stepRule bounds (words counts) t)
+    (shifted image base 0 4 ∙ ap (λ (first : ℕ). valuesAt image (from first 4)) (add-zero base))
     (shifted image base 4 10)
 base-asks Nct80 table base image t = refl
 

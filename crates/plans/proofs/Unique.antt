@@ -11,7 +11,7 @@ use Rattle.refusal.specs.Checks.{Check}
 use Rattle.curves.specs.declared.Plan.{Plan}
 use Rattle.plans.specs.declared.Asked.{Asked}
 use Rattle.plans.specs.declared.Asked.the-variants as asked
-use Rattle.plans.specs.Plans.{tellsAsked, Judges, AsksPlanBy, AsksImage}
+use Rattle.plans.specs.Contracts.{tellsAsked, Judges, AsksPlanBy, AsksImage}
 
 pub tellsAsked-injective : (r s : Asked) → tellsAsked r ≡ tellsAsked s → r ≡ s
 tellsAsked-injective (asked.Speed a) (asked.Speed b) e = ap asked.Speed (ap (λ (t : ℕ × ℕ). t .1) e)

@@ -12,7 +12,7 @@ ghost use Rattle.refusal.specs.Checks.{first};
 ghost use Rattle.refusal.specs.Answers.{tells};
 ghost use Rattle.cards.specs.Cards.{hasTable};
 ghost use Rattle.curves.specs.Planned.{temperaturesInOrder, speedsInOrder};
-ghost use Rattle.plans.specs.Plans.{Judges, AsksPlan, AsksImage};
+ghost use Rattle.plans.specs.Contracts.{Judges, AsksPlan, AsksImage};
 
 // The duty of chip 1, or the count of chip 2.
 pub enum Asked {

@@ -19,12 +19,13 @@ use Rattle.refusal.specs.declared.Count.the-variants as counted
 use Rattle.cards.specs.declared.types.Named.{Named}
 use Rattle.cards.specs.declared.types.Named.the-variants.{Known, Unknown}
 use Rattle.cards.specs.Cards.{chipOf, whenKnown}
-use Rattle.identities.specs.Identities.{identityChecks}
+use Rattle.identities.specs.Contracts.{identityChecks}
 use Rattle.curves.specs.declared.Plan.{Plan}
-use Rattle.plans.specs.Plans.{planChecks}
+use Rattle.plans.specs.Contracts.{planChecks}
 use Rattle.scripts.specs.Scripts.{Pair, pairsIn, scriptOf, scriptFor}
 use Rattle.scripts.proofs.Answers.{still-refused}
-use Rattle.plays.specs.Plays.{played, startChecks, playChecks, Plays, after, Makes}
+use Rattle.plays.specs.Plays.{played, afterPairs, Makes}
+use Rattle.plays.specs.Contracts.{startChecks, playChecks, Plays}
 
 -- the first of as many as there are
 take-least : (count : ℕ) (ws : List Pair) → take (min count (length ws)) ws ≡ take count ws
@@ -64,6 +65,6 @@ module _ (plan : Plan) (image : List ℕ) (count : ℕ) where
       }
     where
       by-name : (named : Named) → chipOf (plan .chip) ≡ named → pairsIn n bytes ≡ take count (scriptFor plan)
-          → after (plan .chip) bytes n image ≡ whenKnown (chipOf (plan .chip)) (λ c. played c (take count (scriptOf c plan)) image) image
+          → afterPairs (plan .chip) bytes n image ≡ whenKnown (chipOf (plan .chip)) (λ c. played c (take count (scriptOf c plan)) image) image
       by-name (Known chip) t l = rw t (ap (λ (ws : List Pair). played chip ws image) (rw t at l))
       by-name Unknown t l = rw t

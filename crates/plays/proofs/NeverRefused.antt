@@ -9,11 +9,11 @@ use Rattle.refusal.specs.declared.Count.{Count}
 use Rattle.refusal.specs.declared.Count.the-variants as counted
 use Rattle.refusal.proofs.Answers.{tellsCount-injective}
 use Rattle.refusal.proofs.Passed.{told-passed}
-use Rattle.identities.specs.Identities.{identityChecks}
+use Rattle.identities.specs.Contracts.{identityChecks}
 use Rattle.curves.specs.declared.Plan.{Plan}
-use Rattle.plans.specs.Plans.{planChecks}
+use Rattle.plans.specs.Contracts.{planChecks}
 use Rattle.scripts.specs.Scripts.{scriptFor}
-use Rattle.plays.specs.Plays.{playChecks, Plays}
+use Rattle.plays.specs.Contracts.{playChecks, Plays}
 use Rattle.plays.proofs.Answers.{same-checks}
 
 pub play-accepted : {plan : Plan} {old new : List ℕ} {count : ℕ} {r : Count} → first (planChecks plan) ≡ 0

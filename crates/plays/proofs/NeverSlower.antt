@@ -25,13 +25,15 @@ use Rattle.plans.specs.declared.Asked.the-variants.{Speed}
 use Rattle.curves.specs.Orders.{fulls}
 use Rattle.curves.specs.Values.{Within, Typed}
 use Rattle.curves.specs.Planned.{Curve, planned, asks}
-use Rattle.plans.specs.Plans.{held, AsksImage, AsksPlan}
+use Rattle.plans.specs.Plans.{held}
+use Rattle.plans.specs.Contracts.{AsksImage, AsksPlan}
 use Rattle.plans.proofs.Unique.{tellsAsked-injective}
 use Rattle.scripts.specs.Scripts.{Pair, writes, fullOf, script, scriptOf}
 use Rattle.scripts.specs.Rules.{Outside, Rule}
 use Rattle.scripts.proofs.Memory.{Memory, puts, elsewhere-writes, elsewhere-append, cut-elsewhere}
 use Rattle.scripts.proofs.Safe.{curveIn, asked, never-slower, ends-planned}
-use Rattle.plays.specs.Plays.{played, playChecks, Plays}
+use Rattle.plays.specs.Plays.{played}
+use Rattle.plays.specs.Contracts.{playChecks, Plays}
 use Rattle.plays.specs.NeverSlower.{AsFast, slower, Demand3, Safely}
 use Rattle.plays.proofs.Rules.{ruleOf}
 use Rattle.plays.proofs.Played.{bytesOf, played-length, played-puts, whole-take, all-left, all-right, table-apart}

@@ -19,10 +19,10 @@ use Rattle.cards.specs.declared.types.Named.{Named}
 use Rattle.cards.specs.declared.types.Named.the-variants.{Known, Unknown}
 use Rattle.cards.specs.Cards.{chipOf, whenKnown, sizeOf}
 use Rattle.images.specs.Bytes.{written}
-use Rattle.identities.specs.Identities.{identityChecks, Confirms}
-use Rattle.images.specs.Images.{Writes}
+use Rattle.identities.specs.Contracts.{identityChecks, Confirms}
+use Rattle.images.specs.Contracts.{WritesByte}
 use Rattle.scripts.specs.Scripts.{Pair, pairsIn}
-use Rattle.plays.specs.Plays.{played, after, Makes}
+use Rattle.plays.specs.Plays.{played, afterPairs, Makes}
 
 -- what identity answered, once the answer is known
 pub answered : {chip : ℕ} {image : List ℕ} {r s : Outcome} → Confirms chip image r → r ≡ s → Confirms chip image s
@@ -40,7 +40,7 @@ pub record Made (chip : ℕ) (pairs : List ℕ) (n : ℕ) (old image : List ℕ)
   pub within : k ≤ n
   pub room : 2 * n ≤ length pairs
   pub long : length image ≡ length old
-  pub same : image ≡ after chip pairs k old
+  pub same : image ≡ afterPairs chip pairs k old
 
 pub made-none : {chip : ℕ} {pairs old : List ℕ} {n : ℕ} → Confirms chip old outcome.Accepted → 2 * n ≤ length pairs → Made chip pairs n old old 0
 made-none {chip} {pairs} {old} {n} c h =
@@ -55,7 +55,7 @@ played-append chip [] ys image = refl
 played-append chip (x ∷ xs) ys image = played-append chip xs ys (written chip (x .0) (x .1) image)
 
 pub made-more : {chip : ℕ} {pairs : List ℕ} {n : ℕ} {old image new : List ℕ} {k : ℕ} {r : Outcome} → Made chip pairs n old image k → k < n
-    → length new ≡ length image → Writes chip image (getD pairs (2 * k) 0) (getD pairs (2 * k + 1) 0) r new
+    → length new ≡ length image → WritesByte chip image (getD pairs (2 * k) 0) (getD pairs (2 * k + 1) 0) r new
     → Made chip pairs n old new (k + 1)
 made-more {chip} {pairs} {n} {old} {image} {new} {k} m h e w =
     record {
@@ -66,7 +66,7 @@ made-more {chip} {pairs} {n} {old} {image} {new} {k} m h e w =
       same = rw (add-one k) (by-chip (chipOf chip) refl);
     }
   where
-    by-chip : (named : Named) → chipOf chip ≡ named → new ≡ after chip pairs (suc k) old
+    by-chip : (named : Named) → chipOf chip ≡ named → new ≡ afterPairs chip pairs (suc k) old
     by-chip (Known c) q =
         w .bytes
         ∙ rw (q, eq-eqb (length image) (sizeOf c) (m .long ∙ confirmed-long chip c old q (m .confirmed)))
@@ -81,7 +81,7 @@ makes-all {chip} {pairs} {n} {old} {image} {k} m h =
     let all : k ≡ n = omega (arith, m .within) in
     record {
       answer = told-passed (identityChecks chip old) n (m .confirmed);
-      bytes = m .same ∙ ap (λ (j : ℕ). after chip pairs j old) all ∙ when-passed _ old (m .confirmed);
+      bytes = m .same ∙ ap (λ (j : ℕ). afterPairs chip pairs j old) all ∙ when-passed _ old (m .confirmed);
     }
 
 pub makes-none : {chip : ℕ} {old : List ℕ} {r : Refusal} (pairs : List ℕ) (n : ℕ) → Confirms chip old (outcome.Refused r)

@@ -7,7 +7,7 @@ use Rattle.refusal.proofs.Answers.{tellsCount-injective}
 use Rattle.refusal.specs.declared.Count.{Count}
 use Rattle.refusal.specs.Checks.{Check}
 use Rattle.curves.specs.declared.Plan.{Plan}
-use Rattle.plays.specs.Plays.{PlaysBy}
+use Rattle.plays.specs.Contracts.{PlaysBy}
 
 pub plays-unique : {checks : List Check} {plan : Plan} {old : List ℕ} {count : ℕ} {r s : Count} {l m : List ℕ}
     → PlaysBy checks plan old count r l → PlaysBy checks plan old count s m → (r ≡ s) × (l ≡ m)

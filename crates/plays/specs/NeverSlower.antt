@@ -11,12 +11,12 @@ use Rattle.cards.specs.declared.types.Chip.the-variants.{Nct7802y, F75373s, Nct
 use Rattle.cards.specs.declared.types.Named.the-variants.{Known}
 use Rattle.cards.specs.Rows.{positions}
 use Rattle.cards.specs.Cards.{chipOf, tableOf}
-use Rattle.identities.specs.Identities.{identityChecks}
+use Rattle.identities.specs.Contracts.{identityChecks}
 use Rattle.curves.specs.declared.Plan.{Plan}
 use Rattle.plans.specs.declared.Asked.{Asked}
 use Rattle.plans.specs.declared.Asked.the-variants.{Speed, Refused}
 use Rattle.curves.specs.Orders.{MoreDuty, LessCount}
-use Rattle.plans.specs.Plans.{planChecks, AsksImage, AsksPlan}
+use Rattle.plans.specs.Contracts.{planChecks, AsksImage, AsksPlan}
 use Rattle.scripts.specs.Scripts.{scriptFor}
 use Rattle.scripts.specs.Rules.{Outside}
 

@@ -1,47 +1,27 @@
 -- Playing a plan's script on an image: what is checked, how many writes are made, and which bytes stand there afterwards.
 -- Assumes nothing.
-use Prim.Native.Nat.{ℕ, min}
+use Prim.Native.Nat.{ℕ}
 use mathlib.Core.Path.{_≡_}
-use mathlib.Core.List.{List, [], _∷_, _++_}
-use lib.ListN.{length, take}
+use mathlib.Core.List.{List, [], _∷_}
 use Rattle.refusal.specs.declared.Count.{Count}
 use Rattle.refusal.specs.Answers.{tellsCount}
-use Rattle.refusal.specs.Checks.{Check, told, left}
+use Rattle.refusal.specs.Checks.{told, left}
 use Rattle.cards.specs.declared.types.Chip.{Chip}
-use Rattle.cards.specs.Cards.{chipOf, whenKnown, notAnImage}
+use Rattle.cards.specs.Cards.{chipOf, whenKnown}
 use Rattle.images.specs.Bytes.{written}
-use Rattle.identities.specs.Identities.{unconfirmed, identityChecks}
-use Rattle.curves.specs.declared.Plan.{Plan}
-use Rattle.plans.specs.Plans.{planChecks}
-use Rattle.scripts.specs.Scripts.{Pair, pairsIn, scriptOf, scriptFor}
+use Rattle.identities.specs.Contracts.{identityChecks}
+use Rattle.scripts.specs.Scripts.{Pair, pairsIn}
 
 -- an image after some byte writes
 abbrev pub played : Chip → List Pair → List ℕ → List ℕ
 played chip [] image = image
 played chip (w ∷ ws) image = played chip ws (written chip (w .0) (w .1) image)
 
--- "playing a script checks 3, 4, 6, 7, 8, 10 and no 9": the plan, then the starting image
-abbrev pub startChecks : Plan → List ℕ → List Check
-startChecks plan image = (notAnImage (plan .chip) image, 8) ∷ (unconfirmed (plan .chip) image, 10) ∷ []
-
-abbrev pub playChecks : Plan → List ℕ → List Check
-playChecks plan image = planChecks plan ++ startChecks plan image
-
--- what a call that plays a plan's script promises, by its own list of checks: "a number above the script's length means all. It answers how many
--- it made." ..
-pub record PlaysBy (checks : List Check) (plan : Plan) (old : List ℕ) (count : ℕ) (r : Count) (new : List ℕ) : Type 0 where
-  pub answer : tellsCount r ≡ told checks (min count (length (scriptFor plan)))
-  pub bytes : new ≡ left checks (whenKnown (chipOf (plan .chip)) (λ c. played c (take count (scriptOf c plan)) old) old) old
-
--- .. and so what `plays::play` promises
-abbrev pub Plays : Plan → List ℕ → ℕ → Count → List ℕ → Type 0
-Plays plan old count r new = PlaysBy (playChecks plan old) plan old count r new
-
 -- The contract of the part that writes. What an image is after the first n pairs of a script's bytes ..
-abbrev pub after : ℕ → List ℕ → ℕ → List ℕ → List ℕ
-after number bytes n image = whenKnown (chipOf number) (λ c. played c (pairsIn n bytes) image) image
+abbrev pub afterPairs : ℕ → List ℕ → ℕ → List ℕ → List ℕ
+afterPairs number bytes n image = whenKnown (chipOf number) (λ c. played c (pairsIn n bytes) image) image
 
 -- .. it is made where identity is confirmed
 pub record Makes (number : ℕ) (pairs : List ℕ) (n : ℕ) (old : List ℕ) (r : Count) (new : List ℕ) : Type 0 where
   pub answer : tellsCount r ≡ told (identityChecks number old) n
-  pub bytes : new ≡ left (identityChecks number old) (after number pairs n old) old
+  pub bytes : new ≡ left (identityChecks number old) (afterPairs number pairs n old) old

@@ -5,7 +5,8 @@ use refusal::Outcome;
 ghost use Prim.Native.Nat.{_*_, _≤_, min};
 ghost use mathlib.Core.Path.{_≡_};
 ghost use lib.ListN.{length};
-ghost use Rattle.plays.specs.Plays.{Makes, Plays};
+ghost use Rattle.plays.specs.Plays.{Makes};
+ghost use Rattle.plays.specs.Contracts.{Plays};
 ghost use Rattle.plays.specs.NeverSlower.{Safely};
 
 fn least(a: usize, b: usize) -> usize

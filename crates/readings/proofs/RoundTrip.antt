@@ -12,7 +12,7 @@ use Rattle.readings.specs.declared.Steps.the-variants as steps
 use Rattle.readings.specs.declared.Bytes.{Bytes}
 use Rattle.readings.specs.declared.Bytes.the-variants as bytes
 use Rattle.readings.specs.Readings.{isWidth, fits, wordOf, bytesOf, stepsAt, bytesAt, cleared}
-use Rattle.readings.specs.Promises.{Counts, Writes, stepsChecks, bytesChecks, tellsSteps, tellsBytes}
+use Rattle.readings.specs.Contracts.{CountsSteps, GivesBytes, stepsChecks, bytesChecks, tellsSteps, tellsBytes}
 use Rattle.readings.proofs.Widths.{bounds}
 use Rattle.readings.proofs.Scaled.{steps-again, word-cleared, number-fits}
 use Rattle.readings.proofs.Unique.{tellsSteps-injective, tellsBytes-injective}
@@ -36,10 +36,10 @@ pub at-a-width : (width : ℕ) → isWidth width ≡ true → RoundTrip width
 at-a-width width e = round-trip width (omega (arith, bounds width e)) (omega (arith, bounds width e))
 
 -- no check applies: the answer tells 0 and its values
-pub counted : {width high low : ℕ} {r : Steps} → isWidth width ≡ true → Counts width high low r → tellsSteps r ≡ (0, stepsAt width high low)
+pub counted : {width high low : ℕ} {r : Steps} → isWidth width ≡ true → CountsSteps width high low r → tellsSteps r ≡ (0, stepsAt width high low)
 counted e p = rw e at (p .answer)
 
-written : {width : ℕ} {n : ℤ} {r : Bytes} → isWidth width ≡ true → fits width n ≡ true → Writes width n r → tellsBytes r ≡ (0, bytesAt width n)
+written : {width : ℕ} {n : ℤ} {r : Bytes} → isWidth width ≡ true → fits width n ≡ true → GivesBytes width n r → tellsBytes r ≡ (0, bytesAt width n)
 written e f p = rw (e, f) at (p .answer)
 
 -- 0 is told only where no check applies
@@ -60,7 +60,7 @@ none-applies width n h = by-tests (isWidth width) (fits width n) refl refl
     by-tests false false e f = absurd (omega (arith, simp (e, f) at h))
 
 -- the bytes that `bytes_of` gives for n steps are counted as n by `steps_of`
-pub steps-come-back : {width high low : ℕ} {n : ℤ} {r : Steps} → Writes width n (bytes.Pair high low) → Counts width high low r → r ≡ steps.Counted n
+pub steps-come-back : {width high low : ℕ} {n : ℤ} {r : Steps} → GivesBytes width n (bytes.Pair high low) → CountsSteps width high low r → r ≡ steps.Counted n
 steps-come-back {width} {high} {low} {n} {r} p q =
     let ok : (isWidth width ≡ true) × (fits width n ≡ true) = none-applies width n (ap (λ (t : ℕ × (ℕ × ℕ)). t .0) (p .answer)) in
     let told-bytes : tellsBytes (bytes.Pair high low) ≡ (0, bytesAt width n) = written (ok .0) (ok .1) p in
@@ -68,7 +68,7 @@ steps-come-back {width} {high} {low} {n} {r} p q =
     (counted (ok .0) q ∙ ap (λ (z : ℤ). (0, z)) (ap (λ (t : ℕ × (ℕ × ℕ)). stepsAt width (t .1 .0) (t .1 .1)) told-bytes ∙ at-a-width width (ok .0) .steps-bytes-steps n (ok .1)))
 
 -- two bytes that `steps_of` counts as n are, but for the ignored bits, what `bytes_of` gives for n
-pub bytes-come-back-cleared : {width high low : ℕ} {n : ℤ} {r : Bytes} → high < 256 → low < 256 → Counts width high low (steps.Counted n) → Writes width n r → r ≡ bytes.Pair (cleared width high low .0) (cleared width high low .1)
+pub bytes-come-back-cleared : {width high low : ℕ} {n : ℤ} {r : Bytes} → high < 256 → low < 256 → CountsSteps width high low (steps.Counted n) → GivesBytes width n r → r ≡ bytes.Pair (cleared width high low .0) (cleared width high low .1)
 bytes-come-back-cleared {width} {high} {low} {n} {r} h l p q =
     let known : isWidth width ≡ true = known-width width (ap (λ (t : ℕ × ℤ). t .0) (p .answer)) in
     let is : stepsAt width high low ≡ n = sym (ap (λ (t : ℕ × ℤ). t .1) (counted known p)) in

@@ -8,7 +8,7 @@ use Rattle.readings.specs.declared.Steps.{Steps}
 use Rattle.readings.specs.declared.Steps.the-variants as steps
 use Rattle.readings.specs.declared.Bytes.{Bytes}
 use Rattle.readings.specs.declared.Bytes.the-variants as bytes
-use Rattle.readings.specs.Promises.{tellsSteps, tellsBytes, Encodes, Counts, Writes, Measures}
+use Rattle.readings.specs.Contracts.{tellsSteps, tellsBytes, Encodes, CountsSteps, GivesBytes, Measures}
 
 pub tellsSteps-injective : (a b : Steps) → tellsSteps a ≡ tellsSteps b → a ≡ b
 tellsSteps-injective (steps.Counted m) (steps.Counted n) e = ap (λ (t : ℕ × ℤ). steps.Counted (t .1)) e
@@ -27,10 +27,10 @@ tellsBytes-injective (bytes.Refused r) (bytes.Refused s) e =
 pub encodes-unique : {number : ℤ} {m n : ℕ} → Encodes number m → Encodes number n → m ≡ n
 encodes-unique p q = p .answer ∙ sym (q .answer)
 
-pub counts-unique : {width high low : ℕ} {r s : Steps} → Counts width high low r → Counts width high low s → r ≡ s
+pub counts-unique : {width high low : ℕ} {r s : Steps} → CountsSteps width high low r → CountsSteps width high low s → r ≡ s
 counts-unique {r} {s} p q = tellsSteps-injective r s (p .answer ∙ sym (q .answer))
 
-pub writes-unique : {width : ℕ} {n : ℤ} {r s : Bytes} → Writes width n r → Writes width n s → r ≡ s
+pub writes-unique : {width : ℕ} {n : ℤ} {r s : Bytes} → GivesBytes width n r → GivesBytes width n s → r ≡ s
 writes-unique {r} {s} p q = tellsBytes-injective r s (p .answer ∙ sym (q .answer))
 
 pub measures-unique : {word m n : ℕ} → Measures word m → Measures word n → m ≡ n

@@ -1,3 +1,3 @@
 pub mod Readings
 pub mod Sensors
-pub mod Promises
+pub mod Contracts

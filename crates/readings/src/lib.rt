@@ -3,7 +3,7 @@ use refusal::Refusal;
 ghost use mathlib.Core.Path.{_≡_};
 ghost use mathlib.Core.Bool.{true};
 ghost use Rattle.readings.specs.Readings.{isWidth, asNumber, fits};
-ghost use Rattle.readings.specs.Promises.{Encodes, Counts, Writes, Measures};
+ghost use Rattle.readings.specs.Contracts.{Encodes, CountsSteps, GivesBytes, Measures};
 
 // A temperature as a signed count of steps, or why there is none.
 pub enum Steps {
@@ -57,7 +57,7 @@ fn does_fit(width: u8, steps: i16) -> bool
 
 // The temperature of two bytes at a width.
 pub fn steps_of(width: u8, high: u8, low: u8) -> Steps
-    ensures { λ r. ⌜ Counts width high low r ⌝ }
+    ensures { λ r. ⌜ CountsSteps width high low r ⌝ }
 {
     if !is_width(width) {
         return Steps::Refused(Refusal::NoSuchWidth);
@@ -68,7 +68,7 @@ pub fn steps_of(width: u8, high: u8, low: u8) -> Steps
 
 // The two bytes of a temperature at a width.
 pub fn bytes_of(width: u8, steps: i16) -> Bytes
-    ensures { λ r. ⌜ Writes width steps r ⌝ }
+    ensures { λ r. ⌜ GivesBytes width steps r ⌝ }
 {
     if !is_width(width) {
         return Bytes::Refused(Refusal::NoSuchWidth);

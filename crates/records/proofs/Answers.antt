@@ -23,9 +23,11 @@ use Rattle.cards.specs.Cards.{chipOf, whenKnown, hasTable}
 use Rattle.cards.proofs.Numbers.{chip-known}
 use Rattle.curves.specs.declared.Plan.{Plan}
 use Rattle.bodies.specs.Bodies.{decoded}
-use Rattle.plans.specs.Plans.{askPlanChecks, orderChecks, planChecks}
+use Rattle.plans.specs.Contracts.{askPlanChecks, orderChecks, planChecks}
 use Rattle.records.specs.declared.Found.{Found}
-use Rattle.records.specs.Records.{bodyLength, recordLength, recordOf, encoded, chipIn, tableIn, bodyIn, noPlan, planOf, planIn, wrongMark, bodyChecks, bodyPlanChecks, recordChecks, writeChecks, roomChecks, Refuses, Plans, Reads, Writes}
+use Rattle.records.specs.Records.{bodyLength, recordLength, recordOf, encoded, chipIn, tableIn, bodyIn, noPlan, planOf, planIn}
+use Rattle.records.specs.Parts.{Refuses}
+use Rattle.records.specs.Contracts.{wrongMark, bodyChecks, bodyPlanChecks, recordChecks, writeChecks, roomChecks, TakesBody, ReadsRecord, WritesRecord}
 use Rattle.bodies.proofs.Laws.{decoded-chip, decoded-table}
 
 -- what an answer with a count says of the call
@@ -71,7 +73,7 @@ whole-judged number table bytes W more =
     (W .named, decoded-chip (W .chip) table bytes, decoded-table (W .chip) table bytes, W .has, le-ltb (length bytes) (bodyLength (W .chip)) (W .long))
 
 pub plan-refused : (number table : ℕ) (bytes : List ℕ) {refusal : Refusal} {r : Found} → Refuses refusal r
-    → numberOf refusal ≡ first (bodyChecks number table bytes) → Plans number table bytes r
+    → numberOf refusal ≡ first (bodyChecks number table bytes) → TakesBody number table bytes r
 plan-refused number table bytes {refusal} R e =
     record {
       answer = ap tellsCount (R .answer) ∙ told-refused refusal (bodyChecks number table bytes) _ e;
@@ -79,7 +81,7 @@ plan-refused number table bytes {refusal} R e =
     }
 
 pub plan-accepted : (number table : ℕ) (bytes : List ℕ) (n : ℕ) (plan : Plan) (W : Whole number table bytes) → n ≡ bodyLength (W .chip)
-    → plan ≡ decoded (W .chip) table bytes → Plans number table bytes (record { answer = counted.Of n; plan = plan })
+    → plan ≡ decoded (W .chip) table bytes → TakesBody number table bytes (record { answer = counted.Of n; plan = plan })
 plan-accepted number table bytes n plan W e d =
     let none = whole-passed number table bytes W in
     let used : n ≡ whenKnown (chipOf number) bodyLength 0 = rw (W .named) e in
@@ -95,7 +97,7 @@ pub record Taken (number table : ℕ) (bytes : List ℕ) (n : ℕ) (plan : Plan)
   pub used : n ≡ bodyLength (whole .chip)
   pub plan-in : plan ≡ decoded (whole .chip) table bytes
 
-pub plan-taken : (number table : ℕ) (bytes : List ℕ) (n : ℕ) (r : Found) → Plans number table bytes r → r .answer ≡ counted.Of n
+pub plan-taken : (number table : ℕ) (bytes : List ℕ) (n : ℕ) (r : Found) → TakesBody number table bytes r → r .answer ≡ counted.Of n
     → Taken number table bytes n (r .plan)
 plan-taken number table bytes n r P e =
     let t = told-of (bodyChecks number table bytes) (whenKnown (chipOf number) bodyLength 0) n (r .answer) e (P .answer) in
@@ -108,7 +110,7 @@ plan-taken number table bytes n r P e =
 
 -- a refused record
 pub record-refused : (bytes : List ℕ) {refusal : Refusal} {r : Found} → Refuses refusal r
-    → numberOf refusal ≡ first (recordChecks bytes) → Reads bytes r
+    → numberOf refusal ≡ first (recordChecks bytes) → ReadsRecord bytes r
 record-refused bytes {refusal} R e =
     record {
       answer = ap tellsCount (R .answer) ∙ told-refused refusal (recordChecks bytes) _ e;
@@ -133,8 +135,8 @@ marked-checks : (bytes : List ℕ) → Marked bytes
 marked-checks bytes M = rw (le-ltb (length bytes) 4 (M .long), M .mark)
 
 -- one whose body is refused is refused as its body is
-pub record-cut : (bytes : List ℕ) (refusal : Refusal) (r : Found) → Marked bytes → Plans (chipIn bytes) (tableIn bytes) (bodyIn bytes) r
-    → r .answer ≡ counted.Refused refusal → Reads bytes r
+pub record-cut : (bytes : List ℕ) (refusal : Refusal) (r : Found) → Marked bytes → TakesBody (chipIn bytes) (tableIn bytes) (bodyIn bytes) r
+    → r .answer ≡ counted.Refused refusal → ReadsRecord bytes r
 record-cut bytes refusal r M P e =
     let checks = bodyChecks (chipIn bytes) (tableIn bytes) (bodyIn bytes) in
     let number : numberOf refusal ≡ first checks = ap (λ (t : ℕ × ℕ). t .0) (ap tellsCount (sym e) ∙ P .answer) in
@@ -156,7 +158,7 @@ complete-judged bytes C =
 
 pub record-accepted : (bytes : List ℕ) (n : ℕ) (plan : Plan) (C : Complete bytes) → first (recordChecks bytes) ≡ 0
     → n ≡ recordLength (C .whole .chip) → plan ≡ decoded (C .whole .chip) (tableIn bytes) (bodyIn bytes)
-    → Reads bytes (record { answer = counted.Of n; plan = plan })
+    → ReadsRecord bytes (record { answer = counted.Of n; plan = plan })
 record-accepted bytes n plan C none e d =
     let used : n ≡ whenKnown (chipOf (chipIn bytes)) recordLength 0 = rw (C .whole .named) e in
     let read : plan ≡ planIn bytes = rw (C .whole .named) d in
@@ -167,7 +169,7 @@ record-accepted bytes n plan C none e d =
 
 -- a refused write alters no byte
 pub write-refused : (plan : Plan) (old : List ℕ) (refusal : Refusal) → numberOf refusal ≡ first (planChecks plan)
-    → Writes plan old (counted.Refused refusal) old
+    → WritesRecord plan old (counted.Refused refusal) old
 write-refused plan old refusal e =
     let f = e ∙ sym (first-refused (planChecks plan) (roomChecks (length (encoded plan)) old) (rw (sym e) (numberOf-positive refusal))) in
     record {
@@ -180,7 +182,7 @@ module _ (chip : Chip) (plan : Plan) (old : List ℕ) (named : chipOf (plan .chi
   room : first (writeChecks plan old) ≡ first (roomChecks (length (recordOf chip plan)) old)
   room = first-passed (planChecks plan) (roomChecks (length (encoded plan)) old) refl judged ∙ (rw named)
 
-  pub write-short : length old < length (recordOf chip plan) → Writes plan old (counted.Refused Refusal.OutputTooShort) old
+  pub write-short : length old < length (recordOf chip plan) → WritesRecord plan old (counted.Refused Refusal.OutputTooShort) old
   write-short h =
       let f : 9 ≡ first (writeChecks plan old) = sym (room ∙ (rw (lt-ltb (length old) (length (recordOf chip plan)) h))) in
       record {
@@ -189,7 +191,7 @@ module _ (chip : Chip) (plan : Plan) (old : List ℕ) (named : chipOf (plan .chi
       }
 
   pub write-whole : (n : ℕ) (new : List ℕ) → n ≡ length (recordOf chip plan) → n ≤ length old → new ≡ paste old 0 (recordOf chip plan) n
-      → Writes plan old (counted.Of n) new
+      → WritesRecord plan old (counted.Of n) new
   write-whole n new e h copied =
       let f : first (writeChecks plan old) ≡ 0 = room ∙ (rw (le-ltb (length old) (length (recordOf chip plan)) (omega arith))) in
       let whole : take n (recordOf chip plan) ≡ encoded plan = take-all n (recordOf chip plan) (omega arith) ∙ (rw named) in

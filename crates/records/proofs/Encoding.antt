@@ -17,9 +17,9 @@ use Rattle.cards.proofs.Numbers.{chip-number}
 use Rattle.cards.proofs.Tables.{table-at-base}
 use Rattle.curves.specs.declared.Plan.{Plan}
 use Rattle.curves.specs.Curves.{halves}
-use Rattle.curves.specs.Planned.{planned, bytesAt}
+use Rattle.curves.specs.Planned.{planned, valuesAt}
 use Rattle.bodies.specs.Bodies.{body, decoded}
-use Rattle.plans.specs.Plans.{planChecks}
+use Rattle.plans.specs.Contracts.{planChecks}
 use Rattle.curves.proofs.StepLaws.{halves-length, halves-words}
 use Rattle.curves.proofs.Registers.{in-a-row}
 use Rattle.bodies.proofs.Laws.{slope-back, steps-back}
@@ -92,7 +92,7 @@ pub encode-decode : (chip : Chip) (table : ℕ) (rest : List ℕ) → ((k : ℕ)
     → body (planned chip (decoded chip table rest)) ≡ take (bodyLength chip) rest
 encode-decode Nct7802y table rest bytes h = in-a-row rest 0 9 h
 encode-decode F75373s table rest bytes h =
-    ap (λ (l : List ℕ). bytesAt rest (from 0 4) ++ l)
-    (halves-words (bytesAt rest (from 4 10)) (bytes 5, (bytes 7, (bytes 9, (bytes 11, (bytes 13, tt))))))
+    ap (λ (l : List ℕ). valuesAt rest (from 0 4) ++ l)
+    (halves-words (valuesAt rest (from 4 10)) (bytes 5, (bytes 7, (bytes 9, (bytes 11, (bytes 13, tt))))))
     ∙ in-a-row rest 0 14 h
 encode-decode Nct80 table rest bytes h = refl

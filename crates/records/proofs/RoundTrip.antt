@@ -22,11 +22,12 @@ use Rattle.cards.proofs.Numbers.{chip-number, chip-known}
 use Rattle.curves.specs.declared.Plan.{Plan}
 use Rattle.curves.specs.Planned.{planned}
 use Rattle.bodies.specs.Bodies.{body, decoded}
-use Rattle.plans.specs.Plans.{orderChecks, planChecks}
+use Rattle.plans.specs.Contracts.{orderChecks, planChecks}
 use Rattle.plans.proofs.Laws.{accepted, accepted-known}
 use Rattle.records.specs.declared.Found.{Found}
 use Rattle.curves.specs.Values.{Sized}
-use Rattle.records.specs.Records.{bodyLength, recordLength, recordOf, encoded, chipIn, tableIn, bodyIn, noPlan, planIn, bodyChecks, bodyPlanChecks, recordChecks, roomChecks, writeChecks, ownOf, own, Reads, Writes}
+use Rattle.records.specs.Records.{bodyLength, recordLength, recordOf, encoded, chipIn, tableIn, bodyIn, noPlan, planIn, ownOf, own}
+use Rattle.records.specs.Contracts.{bodyChecks, bodyPlanChecks, recordChecks, roomChecks, writeChecks, ReadsRecord, WritesRecord}
 use Rattle.bodies.proofs.Laws.{decoded-chip, decoded-table}
 use Rattle.records.proofs.Answers.{told-of, whole-body, Complete, complete-judged}
 use Rattle.records.proofs.Encoding.{body-of-plan, record-of-plan, decode-encode, own-judged, encode-decode}
@@ -76,7 +77,7 @@ pub record Accepts (bytes : List ℕ) (n : ℕ) (plan : Plan) : Type 0 where
   pub judged : first (planChecks plan) ≡ 0
   pub record-of : encoded plan ≡ take n bytes
 
-pub read-accepts : (bytes : List ℕ) (n : ℕ) (q : Found) → ((k : ℕ) → getD bytes k 0 < 256) → Reads bytes q → q .answer ≡ counted.Of n
+pub read-accepts : (bytes : List ℕ) (n : ℕ) (q : Found) → ((k : ℕ) → getD bytes k 0 < 256) → ReadsRecord bytes q → q .answer ≡ counted.Of n
     → Accepts bytes n (q .plan)
 read-accepts bytes n q small R e =
     let t = told-of (recordChecks bytes) (whenKnown (chipOf (chipIn bytes)) recordLength 0) n (q .answer) e (R .answer) in
@@ -94,7 +95,7 @@ read-accepts bytes n q small R e =
 -- A plan has one encoding: bytes that are read as the same plan are the same, as far as they are used
 pub one-encoding : (bytes other : List ℕ) (n m : ℕ) (q s : Found)
     → ((k : ℕ) → getD bytes k 0 < 256) → ((k : ℕ) → getD other k 0 < 256)
-    → Reads bytes q → Reads other s → q .answer ≡ counted.Of n → s .answer ≡ counted.Of m → q .plan ≡ s .plan
+    → ReadsRecord bytes q → ReadsRecord other s → q .answer ≡ counted.Of n → s .answer ≡ counted.Of m → q .plan ≡ s .plan
     → (n ≡ m) × (take n bytes ≡ take m other)
 one-encoding bytes other n m q s small small′ R R′ e e′ same =
     let A = read-accepts bytes n q small R e in
@@ -104,7 +105,7 @@ one-encoding bytes other n m q s small small′ R R′ e e′ same =
 
 -- what was read is written back as exactly the bytes used
 pub read-written : (bytes : List ℕ) (n : ℕ) (q : Found) (old : List ℕ) (r : Count) (new : List ℕ)
-    → ((k : ℕ) → getD bytes k 0 < 256) → Reads bytes q → q .answer ≡ counted.Of n → Writes (q .plan) old r new → n ≤ length old
+    → ((k : ℕ) → getD bytes k 0 < 256) → ReadsRecord bytes q → q .answer ≡ counted.Of n → WritesRecord (q .plan) old r new → n ≤ length old
     → (r ≡ counted.Of n) × (new ≡ take n bytes ++ drop n old)
 read-written bytes n q old r new small R e W room =
     let A = read-accepts bytes n q small R e in
@@ -120,7 +121,7 @@ read-written bytes n q old r new small R e W room =
 
 -- a plan's record, with whatever bytes stand behind it
 record-read : (chip : Chip) (plan : Plan) (rest : List ℕ) (q : Found) → Sized plan → chipOf (plan .chip) ≡ Known chip
-    → first (planChecks plan) ≡ 0 → Reads (recordOf chip plan ++ rest) q
+    → first (planChecks plan) ≡ 0 → ReadsRecord (recordOf chip plan ++ rest) q
     → (q .answer ≡ counted.Of (length (recordOf chip plan))) × (q .plan ≡ ownOf chip plan)
 record-read chip plan rest q S e accepts R =
     let bytes = recordOf chip plan ++ rest in
@@ -142,12 +143,12 @@ record-read chip plan rest q S e accepts R =
     )
 
 named-read : (chip : Chip) (plan : Plan) (rest : List ℕ) (q : Found) → Sized plan → chipOf (plan .chip) ≡ Known chip
-    → first (planChecks plan) ≡ 0 → Reads (encoded plan ++ rest) q → (q .answer ≡ counted.Of (length (encoded plan))) × (q .plan ≡ own plan)
+    → first (planChecks plan) ≡ 0 → ReadsRecord (encoded plan ++ rest) q → (q .answer ≡ counted.Of (length (encoded plan))) × (q .plan ≡ own plan)
 named-read chip plan rest q S e accepts = rw e (record-read chip plan rest q S e accepts)
 
 -- what is written is read back: all of it, and the plan with the other chip's values zero
 pub written-read : (plan : Plan) (old : List ℕ) (n : ℕ) (r : Count) (new : List ℕ) (q : Found) → Sized plan
-    → Writes plan old r new → r ≡ counted.Of n → Reads new q → (q .answer ≡ counted.Of n) × (q .plan ≡ own plan)
+    → WritesRecord plan old r new → r ≡ counted.Of n → ReadsRecord new q → (q .answer ≡ counted.Of n) × (q .plan ≡ own plan)
 written-read plan old n r new q S W e R =
     let t = told-of (writeChecks plan old) (length (encoded plan)) n r e (W .answer) in
     let accepts = first-front (planChecks plan) (roomChecks (length (encoded plan)) old) refl (t .0) in
@@ -158,7 +159,7 @@ written-read plan old n r new q S W e R =
 
 -- "only such plans come back equal from their record": those whose other chip's values are zero
 pub comes-back : (plan : Plan) (old : List ℕ) (n : ℕ) (r : Count) (new : List ℕ) (q : Found) → Sized plan
-    → Writes plan old r new → r ≡ counted.Of n → Reads new q
+    → WritesRecord plan old r new → r ≡ counted.Of n → ReadsRecord new q
     → (own plan ≡ plan → q .plan ≡ plan) × (q .plan ≡ plan → own plan ≡ plan)
 comes-back plan old n r new q S W e R =
     let back = written-read plan old n r new q S W e R .1 in

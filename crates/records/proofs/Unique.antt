@@ -9,19 +9,19 @@ use Rattle.refusal.specs.Answers.{tellsCount}
 use Rattle.refusal.specs.Checks.{Check}
 use Rattle.curves.specs.declared.Plan.{Plan}
 use Rattle.records.specs.declared.Found.{Found}
-use Rattle.records.specs.Records.{Plans, Reads, WritesBy}
+use Rattle.records.specs.Contracts.{TakesBody, ReadsRecord, WritesRecordBy}
 
 -- what is found is found once
 found-once : {t : ℕ × ℕ} {p : Plan} {r s : Found} → tellsCount (r .answer) ≡ t → r .plan ≡ p → tellsCount (s .answer) ≡ t → s .plan ≡ p → r ≡ s
 found-once {r = r} {s = s} a p b q =
     λ i. record { answer = tellsCount-injective (r .answer) (s .answer) (a ∙ sym b) i; plan = (p ∙ sym q) i }
 
-pub plans-unique : {chip table : ℕ} {bytes : List ℕ} {r s : Found} → Plans chip table bytes r → Plans chip table bytes s → r ≡ s
+pub plans-unique : {chip table : ℕ} {bytes : List ℕ} {r s : Found} → TakesBody chip table bytes r → TakesBody chip table bytes s → r ≡ s
 plans-unique p q = found-once (p .answer) (p .plan) (q .answer) (q .plan)
 
-pub reads-unique : {bytes : List ℕ} {r s : Found} → Reads bytes r → Reads bytes s → r ≡ s
+pub reads-unique : {bytes : List ℕ} {r s : Found} → ReadsRecord bytes r → ReadsRecord bytes s → r ≡ s
 reads-unique p q = found-once (p .answer) (p .plan) (q .answer) (q .plan)
 
 pub writes-unique : {checks : List Check} {plan : Plan} {old : List ℕ} {r s : Count} {l m : List ℕ}
-    → WritesBy checks plan old r l → WritesBy checks plan old s m → (r ≡ s) × (l ≡ m)
+    → WritesRecordBy checks plan old r l → WritesRecordBy checks plan old s m → (r ≡ s) × (l ≡ m)
 writes-unique {r = r} {s = s} p q = (tellsCount-injective r s (p .answer ∙ sym (q .answer)), p .bytes ∙ sym (q .bytes))

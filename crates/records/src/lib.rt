@@ -10,7 +10,9 @@ use refusal::Outcome;
 use refusal::Refusal;
 ghost use mathlib.Core.Path.{_≡_};
 ghost use lib.ListN.{getD};
-ghost use Rattle.records.specs.Records.{bodyLength, recordOf, Plans, Reads, Refuses, Writes};
+ghost use Rattle.records.specs.Records.{bodyLength, recordOf};
+ghost use Rattle.records.specs.Parts.{Refuses};
+ghost use Rattle.records.specs.Contracts.{TakesBody, ReadsRecord, WritesRecord};
 
 // What is read: the bytes used, and the plan, which is all zeros where the record is refused.
 pub struct Found {
@@ -45,7 +47,7 @@ fn body_length(chip: Chip) -> usize
 
 // The plan of a chip, a table and the body that the bytes begin with, and how many of them it takes.
 pub fn plan_from(chip: u8, table: u8, bytes: &[u8]) -> Found
-    ensures { λ r. ⌜ Plans chip table (now (bytes .entry)) r ⌝ }
+    ensures { λ r. ⌜ TakesBody chip table (now (bytes .entry)) r ⌝ }
 {
     let Named::Known(known) = cards::chip_of(chip) else {
         return refused(Refusal::NoSuchChip);
@@ -65,7 +67,7 @@ pub fn plan_from(chip: u8, table: u8, bytes: &[u8]) -> Found
 
 // The plan of the record that the bytes begin with, and how many of them it takes.
 pub fn read(bytes: &[u8]) -> Found
-    ensures { λ r. ⌜ Reads (now (bytes .entry)) r ⌝ }
+    ensures { λ r. ⌜ ReadsRecord (now (bytes .entry)) r ⌝ }
 {
     if bytes.len() < 4 {
         return refused(Refusal::HeaderCutShort);
@@ -101,7 +103,7 @@ fn byte_of(chip: Chip, plan: Plan, at: usize) -> u8
 
 // Writes a plan's record to the front of the buffer, and answers its length.
 pub fn write(plan: Plan, out: &mut [u8]) -> Count
-    ensures { λ r. ⌜ Writes plan (now (out .entry)) r (now (out .exit)) ⌝ }
+    ensures { λ r. ⌜ WritesRecord plan (now (out .entry)) r (now (out .exit)) ⌝ }
 {
     let Named::Known(chip) = cards::chip_of(plan.chip) else {
         return Count::Refused(Refusal::NoSuchChip);

@@ -16,10 +16,11 @@ use Rattle.refusal.proofs.Passed.{numbered, first-passed, first-refused, when-r
 use Rattle.refusal.specs.declared.Count.{Count}
 use Rattle.refusal.specs.declared.Count.the-variants as counted
 use Rattle.curves.specs.declared.Plan.{Plan}
-use Rattle.plans.specs.Plans.{planChecks}
-use Rattle.records.specs.Records.{roomChecks}
+use Rattle.plans.specs.Contracts.{planChecks}
+use Rattle.records.specs.Contracts.{roomChecks}
 use Rattle.scripts.specs.declared.making.Layout.{Layout}
-use Rattle.scripts.specs.Scripts.{Pair, flat, scriptFor, scriptChecks, Scripts}
+use Rattle.scripts.specs.Scripts.{Pair, flat, scriptFor}
+use Rattle.scripts.specs.Contracts.{scriptChecks, Scripts}
 use Rattle.scripts.specs.Making.{writesOf, pairsOf, Describes, Puts}
 
 -- a refusal by the first checks is one by all of them

@@ -18,9 +18,10 @@ use Rattle.refusal.specs.declared.Count.{Count}
 use Rattle.refusal.specs.declared.Count.the-variants as counted
 use Rattle.refusal.specs.Answers.{tellsCount}
 use Rattle.curves.specs.declared.Plan.{Plan}
-use Rattle.plans.specs.Plans.{planChecks}
-use Rattle.records.specs.Records.{roomChecks}
-use Rattle.scripts.specs.Scripts.{Pair, flat, pairsIn, scriptFor, scriptChecks, Scripts}
+use Rattle.plans.specs.Contracts.{planChecks}
+use Rattle.records.specs.Contracts.{roomChecks}
+use Rattle.scripts.specs.Scripts.{Pair, flat, pairsIn, scriptFor}
+use Rattle.scripts.specs.Contracts.{scriptChecks, Scripts}
 use Rattle.scripts.proofs.Answers.{first-alone}
 
 -- a script's bytes hold its pairs

@@ -16,9 +16,10 @@ use Rattle.cards.specs.declared.types.Named.{Named}
 use Rattle.cards.specs.declared.types.Named.the-variants.{Known, Unknown}
 use Rattle.cards.specs.Cards.{chipOf, hasTable}
 use Rattle.curves.specs.declared.Plan.{Plan}
-use Rattle.plans.specs.Plans.{planChecks}
+use Rattle.plans.specs.Contracts.{planChecks}
 use Rattle.curves.specs.Values.{Sized}
-use Rattle.scripts.specs.Scripts.{scriptOf, scriptLength, scriptFor, scriptChecks, Scripts}
+use Rattle.scripts.specs.Scripts.{scriptOf, scriptLength, scriptFor}
+use Rattle.scripts.specs.Contracts.{scriptChecks, Scripts}
 use Rattle.scripts.proofs.Prepared.{describes-plan}
 
 -- "13 writes", "24 writes"

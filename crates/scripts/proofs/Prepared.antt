@@ -23,10 +23,11 @@ use Rattle.cards.specs.Cards.{sheetOf, chipOf, whenKnown, hasTable, tableFrom, 
 use Rattle.cards.proofs.Tables.{table-number, table-at-base}
 use Rattle.curves.specs.declared.Plan.{Plan}
 use Rattle.curves.specs.Planned.{Curve, planned}
-use Rattle.plans.specs.Plans.{planChecks}
+use Rattle.plans.specs.Contracts.{planChecks}
 use Rattle.curves.specs.Values.{Sized}
 use Rattle.bodies.specs.Bodies.{body}
-use Rattle.records.specs.Records.{header, recordOf, encoded, roomChecks, Writes}
+use Rattle.records.specs.Records.{header, recordOf, encoded}
+use Rattle.records.specs.Contracts.{roomChecks, WritesRecord}
 use Rattle.records.proofs.Encoding.{record-short}
 use Rattle.scripts.specs.declared.making.Layout.{Layout}
 use Rattle.scripts.specs.Scripts.{Pair, fullOf, script, scriptOf, scriptFor}
@@ -144,7 +145,7 @@ in-image {number} {table} {l} lays = rw (lays .answer) (by-name (chipOf number))
     by-name (Known chip) = by-place chip (hasTable chip table) refl
     by-name Unknown = nowhere
 
-module _ {plan : Plan} {old bytes : List ℕ} {used : Count} (long : Sized plan) (room : length old ≡ 18) (w : Writes plan old used bytes) where
+module _ {plan : Plan} {old bytes : List ℕ} {used : Count} (long : Sized plan) (room : length old ≡ 18) (w : WritesRecord plan old used bytes) where
   -- there is room for the record, so only the plan's own checks count
   pub judged : tellsCount used .0 ≡ first (planChecks plan)
   judged =

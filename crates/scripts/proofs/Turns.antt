@@ -12,7 +12,7 @@ use Rattle.refusal.specs.declared.Refusal.the-variants.{OutputTooShort}
 use Rattle.refusal.specs.Checks.{first}
 use Rattle.refusal.proofs.Passed.{when-passed, when-refused, told-passed, told-refused}
 use Rattle.refusal.specs.declared.Count.the-variants as counted
-use Rattle.records.specs.Records.{roomChecks}
+use Rattle.records.specs.Contracts.{roomChecks}
 use Rattle.scripts.specs.declared.making.Layout.{Layout}
 use Rattle.scripts.specs.Scripts.{Pair, flat}
 use Rattle.scripts.specs.Making.{writesOf, pairAt, pairsOf, Puts}

@@ -7,7 +7,7 @@ use Rattle.refusal.proofs.Answers.{tellsCount-injective}
 use Rattle.refusal.specs.declared.Count.{Count}
 use Rattle.refusal.specs.Checks.{Check}
 use Rattle.curves.specs.declared.Plan.{Plan}
-use Rattle.scripts.specs.Scripts.{ScriptsBy}
+use Rattle.scripts.specs.Contracts.{ScriptsBy}
 
 pub scripts-unique : {checks : List Check} {plan : Plan} {old : List ℕ} {r s : Count} {l m : List ℕ}
     → ScriptsBy checks plan old r l → ScriptsBy checks plan old s m → (r ≡ s) × (l ≡ m)

@@ -1,3 +1,4 @@
 pub mod Scripts
+pub mod Contracts
 pub mod Rules
 pub mod Making

@@ -12,7 +12,7 @@ use Rattle.refusal.specs.Checks.{told, left}
 use Rattle.cards.specs.declared.types.Chip.{Chip}
 use Rattle.cards.specs.declared.types.Chip.the-variants.{Nct7802y, F75373s, Nct80}
 use Rattle.cards.specs.Cards.{chipOf, whenKnown, hasTable, baseOf}
-use Rattle.records.specs.Records.{roomChecks}
+use Rattle.records.specs.Contracts.{roomChecks}
 use Rattle.scripts.specs.declared.making.Layout.{Layout}
 use Rattle.scripts.specs.declared.making.Pair as code
 use Rattle.scripts.specs.Scripts.{Pair, fullOf, flat}

@@ -1,12 +1,8 @@
 -- "Plan record and script": a plan's byte writes; and the contract of `scripts`.
 -- Assumes nothing.
 use Prim.Native.Nat.{ℕ, zero, suc, _+_, _*_}
-use mathlib.Core.Path.{_≡_}
 use mathlib.Core.List.{List, [], _∷_, _++_}
-use lib.ListN.{length, getD, drop}
-use Rattle.refusal.specs.declared.Count.{Count}
-use Rattle.refusal.specs.Answers.{tellsCount}
-use Rattle.refusal.specs.Checks.{Check, told, left}
+use lib.ListN.{getD}
 use Rattle.cards.specs.declared.types.Chip.{Chip}
 use Rattle.cards.specs.declared.types.Chip.the-variants.{Nct7802y, F75373s, Nct80}
 use Rattle.cards.specs.Rows.{Table}
@@ -15,8 +11,6 @@ use Rattle.curves.specs.declared.Plan.{Plan}
 use Rattle.curves.specs.Curves.{points}
 use Rattle.curves.specs.Orders.{fulls}
 use Rattle.curves.specs.Planned.{Curve, planned}
-use Rattle.plans.specs.Plans.{planChecks}
-use Rattle.records.specs.Records.{roomChecks}
 
 -- "A script is pairs of address and byte."
 abbrev pub Pair : Type 0
@@ -60,17 +54,3 @@ pairsIn (suc n) bytes = pairsIn n bytes ++ ((getD bytes (2 * n) 0, getD bytes (2
 
 abbrev pub scriptFor : Plan → List Pair
 scriptFor plan = whenKnown (chipOf (plan .chip)) (λ c. scriptOf c plan) []
-
--- "Writing .. a script checks the plan by 3, 4, 6, 7 and then 9"
-abbrev pub scriptChecks : Plan → List ℕ → List Check
-scriptChecks plan out = planChecks plan ++ roomChecks (2 * length (scriptFor plan)) out
-
--- what a call that writes a plan's script promises, by its own list of checks: "The answer says how many writes"; "An output longer than the
--- result keeps its tail." ..
-pub record ScriptsBy (checks : List Check) (plan : Plan) (old : List ℕ) (r : Count) (new : List ℕ) : Type 0 where
-  pub answer : tellsCount r ≡ told checks (length (scriptFor plan))
-  pub bytes : new ≡ left checks (flat (scriptFor plan) ++ drop (2 * length (scriptFor plan)) old) old
-
--- .. and so what `scripts::script` promises
-abbrev pub Scripts : Plan → List ℕ → Count → List ℕ → Type 0
-Scripts plan old r new = ScriptsBy (scriptChecks plan old) plan old r new

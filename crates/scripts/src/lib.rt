@@ -4,7 +4,7 @@ mod output;
 
 use curves::Plan;
 use refusal::Count;
-ghost use Rattle.scripts.specs.Scripts.{Scripts};
+ghost use Rattle.scripts.specs.Contracts.{Scripts};
 
 // Writes a plan's script to the front of the buffer, as pairs of address and byte. No record has more than 18 bytes, so only the plan can be
 // refused there.

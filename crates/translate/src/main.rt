@@ -6,7 +6,7 @@ use refusal::Count;
 ghost use Prim.Native.Nat.{_≤_};
 ghost use lib.ListN.{length};
 ghost use Rattle.refusal.specs.declared.Count.the-variants.{Of};
-ghost use Rattle.translation.specs.Text.{Translates};
+ghost use Rattle.translation.specs.Contracts.{Translates};
 ghost use Rattle.translate.specs.Inputs.{Holds};
 
 enum Input {

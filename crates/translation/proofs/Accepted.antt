@@ -18,8 +18,9 @@ use Rattle.cards.specs.Cards.{sheetOf, chipOf, hasTable}
 use Rattle.cards.proofs.Tables.{table-number}
 use Rattle.curves.specs.declared.Plan.{Plan}
 use Rattle.bodies.specs.Bodies.{decoded}
-use Rattle.plans.specs.Plans.{temperaturesOut, speedsOut, planChecks}
-use Rattle.records.specs.Records.{bodyLength, recordLength, recordChecks, chipIn, tableIn, bodyIn, planIn}
+use Rattle.plans.specs.Contracts.{temperaturesOut, speedsOut, planChecks}
+use Rattle.records.specs.Records.{bodyLength, recordLength, chipIn, tableIn, bodyIn, planIn}
+use Rattle.records.specs.Contracts.{recordChecks}
 use Rattle.bodies.proofs.Laws.{decoded-sized}
 use Rattle.scripts.specs.Scripts.{scriptFor}
 use Rattle.scripts.proofs.Lengths.{script-of-plan}

@@ -16,7 +16,8 @@ use Rattle.refusal.specs.declared.Count.{Count}
 use Rattle.refusal.specs.declared.Count.the-variants as counted
 use Rattle.refusal.specs.Answers.{tellsCount}
 use Rattle.refusal.proofs.Numbers.{not-accepted}
-use Rattle.translation.specs.Text.{tooLong, textFrom, textOf, Translates}
+use Rattle.translation.specs.Text.{tooLong, textFrom, textOf}
+use Rattle.translation.specs.Contracts.{Translates}
 use Rattle.translation.specs.Parts.{Adds}
 use Rattle.translation.proofs.Bound.{text-short}
 use Rattle.translation.proofs.Unique.{translates-unique}

@@ -11,7 +11,8 @@ use lib.Dec.{eqb, ltb}
 use lib.ListN.{length, drop, length-append, length-drop}
 use Rattle.refusal.specs.Checks.{Check, first}
 use Rattle.curves.specs.declared.Plan.{Plan}
-use Rattle.records.specs.Records.{planIn, recordChecks}
+use Rattle.records.specs.Records.{planIn}
+use Rattle.records.specs.Contracts.{recordChecks}
 use Rattle.scripts.specs.Scripts.{scriptFor}
 use Rattle.translation.specs.Text.{headerLine, writeLines, refusalIn, usedIn, planText, refusedLine, endLine, tooLong, textFrom, textOf}
 use Rattle.translation.proofs.Decimals.{one-digit, two-digits, three-digits}

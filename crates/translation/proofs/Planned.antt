@@ -11,10 +11,11 @@ use Rattle.refusal.proofs.Numbers.{not-accepted}
 use Rattle.refusal.specs.declared.Count.{Count}
 use Rattle.refusal.specs.declared.Count.the-variants as counted
 use Rattle.curves.specs.declared.Plan.{Plan}
-use Rattle.scripts.specs.Scripts.{Pair, pairsIn, scriptFor, Scripts}
+use Rattle.scripts.specs.Scripts.{Pair, pairsIn, scriptFor}
+use Rattle.scripts.specs.Contracts.{Scripts}
 use Rattle.scripts.proofs.Buffers.{refused-by-plan, count, first-pairs}
 use Rattle.translation.specs.Text.{headerLine, writeLines, planText}
-use Rattle.translation.specs.Parts.{Within, Adds, Accepts}
+use Rattle.translation.specs.Parts.{InRange, Adds, Accepts}
 use Rattle.translation.proofs.Adding.{adds-then, adds-as}
 
 module _ {plan : Plan} {old bytes : List ℕ} {r : Count} (a : Accepts plan) (room : length old ≡ 48) (s : Scripts plan old r bytes) where
@@ -34,7 +35,7 @@ module _ {plan : Plan} {old bytes : List ℕ} {r : Count} (a : Accepts plan) (ro
     whole number =
         ap₂ (λ (k : ℕ) (ws : List Pair). headerLine number (plan .chip) (plan .table) k ++ writeLines ws) writes pairs
 
-    module _ (at number : ℕ) (w : Within at (planText number plan)) where
+    module _ (at number : ℕ) (w : InRange at (planText number plan)) where
       long : at + (length (headerLine number (plan .chip) (plan .table) n) + length (writeLines (pairsIn n bytes))) ≤ 65536
       long =
           omega (
@@ -44,11 +45,11 @@ module _ {plan : Plan} {old bytes : List ℕ} {r : Count} (a : Accepts plan) (ro
             length-append (headerLine number (plan .chip) (plan .table) n) (writeLines (pairsIn n bytes)),
           )
 
-      pub header-within : Within at (headerLine number (plan .chip) (plan .table) n)
+      pub header-within : InRange at (headerLine number (plan .chip) (plan .table) n)
       header-within = omega (arith, long)
 
       pub writes-within : {next : ℕ} → next ≡ at + length (headerLine number (plan .chip) (plan .table) n)
-          → Within next (writeLines (pairsIn n bytes))
+          → InRange next (writeLines (pairsIn n bytes))
       writes-within {next} q = omega (arith, long, q)
 
     pub plan-added : (number : ℕ) {out mid new : List ℕ} {at next q : ℕ}

@@ -5,7 +5,7 @@ use mathlib.Core.Path.{_≡_, sym, _∙_}
 use mathlib.Core.List.{List}
 use Rattle.refusal.proofs.Answers.{tellsCount-injective}
 use Rattle.refusal.specs.declared.Count.{Count}
-use Rattle.translation.specs.Text.{Translates}
+use Rattle.translation.specs.Contracts.{Translates}
 
 pub translates-unique : {input old : List ℕ} {r s : Count} {l m : List ℕ}
     → Translates input old r l → Translates input old s m → (r ≡ s) × (l ≡ m)

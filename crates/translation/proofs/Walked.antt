@@ -16,20 +16,21 @@ use Rattle.refusal.specs.Answers.{tellsCount}
 use Rattle.curves.specs.declared.Plan.{Plan}
 use Rattle.plans.proofs.Registers.{to-the-end}
 use Rattle.records.specs.declared.Found.{Found}
-use Rattle.records.specs.Records.{planIn, noPlan, Reads}
+use Rattle.records.specs.Records.{planIn, noPlan}
+use Rattle.records.specs.Contracts.{ReadsRecord}
 use Rattle.translation.specs.Text.{refusalIn, usedIn, planText, refusedLine, endLine}
-use Rattle.translation.specs.Parts.{Within, Adds, Accepts}
+use Rattle.translation.specs.Parts.{InRange, Adds, Accepts}
 use Rattle.translation.proofs.Adding.{adds-none, adds-then, adds-as}
 use Rattle.translation.proofs.Accepted.{Accepted, accepted}
 use Rattle.translation.proofs.Turns.{rest, rest-end, rest-refused, rest-plan}
 use Rattle.translation.proofs.Bound.{text-from-short}
 
 -- what the reader answers of the bytes left
-pub read-refused : {bytes : List ℕ} {found : Found} (q : Refusal) → Reads bytes found → found .answer ≡ counted.Refused q → numberOf q ≡ refusalIn bytes
+pub read-refused : {bytes : List ℕ} {found : Found} (q : Refusal) → ReadsRecord bytes found → found .answer ≡ counted.Refused q → numberOf q ≡ refusalIn bytes
 unfolding refusalIn
 read-refused q r e = ap (λ (t : ℕ × ℕ). t .0) (sym (ap tellsCount e) ∙ r .answer)
 
-module _ {bytes : List ℕ} {found : Found} (n : ℕ) (r : Reads bytes found) (e : found .answer ≡ counted.Of n) where
+module _ {bytes : List ℕ} {found : Found} (n : ℕ) (r : ReadsRecord bytes found) (e : found .answer ≡ counted.Of n) where
   pub read-accepted : refusalIn bytes ≡ 0
   unfolding refusalIn
   read-accepted = sym (ap (λ (t : ℕ × ℕ). t .0) (sym (ap tellsCount e) ∙ r .answer))
@@ -56,7 +57,7 @@ walked-none input old = record { made = []; adds = adds-none old 0; text = refl;
 
 module _ {input old out : List ℕ} {at from plans : ℕ} (short : length input ≤ 4096) (w : Walked input old out at from plans) where
   -- there is room for whatever the text goes on with
-  room : (front back : List ℕ) → rest plans (drop from input) ≡ front ++ back → Within at front
+  room : (front back : List ℕ) → rest plans (drop from input) ≡ front ++ back → InRange at front
   room front back e =
       omega (
         arith,
@@ -68,7 +69,7 @@ module _ {input old out : List ℕ} {at from plans : ℕ} (short : length input 
         text-from-short (length input) 0 input (omega arith),
       )
 
-  last-room : (last : List ℕ) → rest plans (drop from input) ≡ last → Within at last
+  last-room : (last : List ℕ) → rest plans (drop from input) ≡ last → InRange at last
   last-room last e = room last [] (e ∙ sym (append-nil last))
 
   -- a last line ends the text
@@ -79,15 +80,15 @@ module _ {input old out : List ℕ} {at from plans : ℕ} (short : length input 
     ends : rest plans (drop from input) ≡ endLine plans
     ends = rest-end plans (drop from input) (omega (arith, length-drop from input))
 
-    pub end-within : Within at (endLine plans)
+    pub end-within : InRange at (endLine plans)
     end-within = last-room (endLine plans) ends
 
     pub end-added : {new : List ℕ} {r : ℕ} → Adds (endLine plans) out at r new → Adds (rest 0 input) old 0 r new
     end-added a = last-added ends a
 
-  module _ {found : Found} (more : from < length input) (part : Reads (take (length input - from) (drop from input)) found) where
-    reads : Reads (drop from input) found
-    reads = subst (λ (l : List ℕ). Reads l found) (to-the-end input from) part
+  module _ {found : Found} (more : from < length input) (part : ReadsRecord (take (length input - from) (drop from input)) found) where
+    reads : ReadsRecord (drop from input) found
+    reads = subst (λ (l : List ℕ). ReadsRecord l found) (to-the-end input from) part
 
     some : 0 < length (drop from input)
     some = omega (arith, length-drop from input)
@@ -99,7 +100,7 @@ module _ {input old out : List ℕ} {at from plans : ℕ} (short : length input 
           rest-refused plans (drop from input) some (omega (arith, same, number, numberOf-positive q))
           ∙ ap (refusedLine (plans + 1)) (sym same)
 
-      pub refused-within : Within at (refusedLine (plans + 1) n)
+      pub refused-within : InRange at (refusedLine (plans + 1) n)
       refused-within = last-room (refusedLine (plans + 1) n) refuses
 
       pub refused-added : {new : List ℕ} {r : ℕ} → Adds (refusedLine (plans + 1) n) out at r new → Adds (rest 0 input) old 0 r new
@@ -119,7 +120,7 @@ module _ {input old out : List ℕ} {at from plans : ℕ} (short : length input 
       pub plan-accepts : Accepts (found .plan)
       plan-accepts = subst Accepts (sym (read-plan n reads e)) (good .accepts)
 
-      pub plan-within : Within at (planText (plans + 1) (found .plan))
+      pub plan-within : InRange at (planText (plans + 1) (found .plan))
       plan-within = room (planText (plans + 1) (found .plan)) (rest (plans + 1) (drop (from + n) input)) goes-on
 
       pub next-within : (from + n ≤ length input) × (13 ≤ n)

@@ -7,12 +7,12 @@ use lib.ListN.{length}
 use lib.Seq.{sets}
 use Rattle.refusal.specs.Checks.{first}
 use Rattle.curves.specs.declared.Plan.{Plan}
-use Rattle.plans.specs.Plans.{planChecks}
+use Rattle.plans.specs.Contracts.{planChecks}
 use Rattle.scripts.specs.Scripts.{scriptFor}
 
 -- places stay far below what a number can hold
-abbrev pub Within : ℕ → List ℕ → Type 0
-Within at text = at + length text ≤ 65536
+abbrev pub InRange : ℕ → List ℕ → Type 0
+InRange at text = at + length text ≤ 65536
 
 -- the text stands at the place, as far as the buffer reaches, and the answer is the place behind it
 pub record Adds (text old : List ℕ) (at r : ℕ) (new : List ℕ) : Type 0 where

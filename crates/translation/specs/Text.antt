@@ -2,17 +2,15 @@
 -- Assumes nothing.
 use Prim.Native.Nat.{ℕ, zero, suc, _+_}
 use Prim.Native.String.{String}
-use mathlib.Core.Path.{_≡_}
 use mathlib.Core.Bool.{cond}
 use mathlib.Core.List.{List, [], _∷_, _++_}
 use lib.Dec.{eqb, ltb}
 use lib.ListN.{length, drop}
-use Rattle.refusal.specs.declared.Count.{Count}
-use Rattle.refusal.specs.Answers.{tellsCount}
-use Rattle.refusal.specs.Checks.{first, told, left}
+use Rattle.refusal.specs.Checks.{first}
 use Rattle.cards.specs.Cards.{chipOf, whenKnown}
 use Rattle.curves.specs.declared.Plan.{Plan}
-use Rattle.records.specs.Records.{chipIn, planIn, recordLength, recordChecks, roomChecks}
+use Rattle.records.specs.Records.{chipIn, planIn, recordLength}
+use Rattle.records.specs.Contracts.{recordChecks}
 use Rattle.scripts.specs.Scripts.{Pair, scriptFor}
 use Rattle.translation.specs.Words.{ascii, hexadecimal, decimal}
 
@@ -74,9 +72,3 @@ textFrom (suc turns) plans bytes =
 -- "The program reads plan records .., at most 4,096 bytes"
 unfoldable pub textOf : List ℕ → List ℕ
 textOf input = cond (ltb 4096 (length input)) tooLong (textFrom (length input) 0 input)
-
--- what `translation::translate` promises: refused 9 where "the output buffer is shorter than the result"; "An output longer than the result
--- keeps its tail." The input is only read, so it is what it was.
-pub record Translates (input old : List ℕ) (r : Count) (new : List ℕ) : Type 0 where
-  pub answer : tellsCount r ≡ told (roomChecks (length (textOf input)) old) (length (textOf input))
-  pub bytes : new ≡ left (roomChecks (length (textOf input)) old) (textOf input ++ drop (length (textOf input)) old) old

@@ -8,13 +8,14 @@ use refusal::Count;
 use refusal::Refusal;
 ghost use Prim.Native.Nat.{_≤_};
 ghost use lib.ListN.{length};
-ghost use Rattle.translation.specs.Text.{planText, textFrom, textOf, Translates};
-ghost use Rattle.translation.specs.Parts.{Within, Adds, Accepts};
+ghost use Rattle.translation.specs.Text.{planText, textFrom, textOf};
+ghost use Rattle.translation.specs.Contracts.{Translates};
+ghost use Rattle.translation.specs.Parts.{InRange, Adds, Accepts};
 
 // An accepted plan's header and script. No script has more than 24 writes, so 48 bytes hold each, and none is refused.
 fn plan_lines(out: &mut [u8], at: usize, number: usize, plan: Plan) -> usize
     requires { ⌜ Accepts plan ⌝ }
-    requires { ⌜ Within at (planText number plan) ⌝ }
+    requires { ⌜ InRange at (planText number plan) ⌝ }
     ensures { λ r. ⌜ Adds (planText number plan) (now (out .entry)) at r (now (out .exit)) ⌝ }
 {
     let mut pairs = [0u8; 48];

@@ -7,7 +7,7 @@ ghost use lib.ListN.{length};
 ghost use Rattle.scripts.specs.Scripts.{pairsIn};
 ghost use Rattle.translation.specs.Words.{digit};
 ghost use Rattle.translation.specs.Text.{headerLine, writeLine, writeLines, refusedLine, endLine};
-ghost use Rattle.translation.specs.Parts.{Within, Adds};
+ghost use Rattle.translation.specs.Parts.{InRange, Adds};
 
 pub(crate) fn header(
     out: &mut [u8],
@@ -17,7 +17,7 @@ pub(crate) fn header(
     table: u8,
     writes: usize,
 ) -> usize
-    requires { ⌜ Within at (headerLine number chip table writes) ⌝ }
+    requires { ⌜ InRange at (headerLine number chip table writes) ⌝ }
     ensures { λ r. ⌜ Adds (headerLine number chip table writes) (now (out .entry)) at r (now (out .exit)) ⌝ }
 {
     let a = numbers::field(out, at, b"plan ", number);
@@ -40,7 +40,7 @@ fn low(byte: u8) -> u8
 }
 
 fn write(out: &mut [u8], at: usize, address: u8, byte: u8) -> usize
-    requires { ⌜ Within at (writeLine (address, byte)) ⌝ }
+    requires { ⌜ InRange at (writeLine (address, byte)) ⌝ }
     ensures { λ r. ⌜ Adds (writeLine (address, byte)) (now (out .entry)) at r (now (out .exit)) ⌝ }
 {
     let line = [
@@ -57,7 +57,7 @@ fn write(out: &mut [u8], at: usize, address: u8, byte: u8) -> usize
 // The first writes of a script, whose bytes stand address first.
 pub(crate) fn writes(out: &mut [u8], at: usize, pairs: &[u8], count: usize) -> usize
     requires { ⌜ 2 * count ≤ length (now pairs) ⌝ }
-    requires { ⌜ Within at (writeLines (pairsIn count (now pairs))) ⌝ }
+    requires { ⌜ InRange at (writeLines (pairsIn count (now pairs))) ⌝ }
     ensures { λ r. ⌜ Adds (writeLines (pairsIn count (now (pairs .entry)))) (now (out .entry)) at r (now (out .exit)) ⌝ }
 {
     let mut next = at;
@@ -68,7 +68,7 @@ pub(crate) fn writes(out: &mut [u8], at: usize, pairs: &[u8], count: usize) -> u
 }
 
 pub(crate) fn refused(out: &mut [u8], at: usize, number: usize, refusal: u8) -> usize
-    requires { ⌜ Within at (refusedLine number refusal) ⌝ }
+    requires { ⌜ InRange at (refusedLine number refusal) ⌝ }
     ensures { λ r. ⌜ Adds (refusedLine number refusal) (now (out .entry)) at r (now (out .exit)) ⌝ }
 {
     let a = numbers::field(out, at, b"plan ", number);
@@ -77,7 +77,7 @@ pub(crate) fn refused(out: &mut [u8], at: usize, number: usize, refusal: u8) -> 
 }
 
 pub(crate) fn end(out: &mut [u8], at: usize, plans: usize) -> usize
-    requires { ⌜ Within at (endLine plans) ⌝ }
+    requires { ⌜ InRange at (endLine plans) ⌝ }
     ensures { λ r. ⌜ Adds (endLine plans) (now (out .entry)) at r (now (out .exit)) ⌝ }
 {
     let a = numbers::field(out, at, b"end ", plans);

@@ -4,7 +4,7 @@ ghost use Prim.Native.Nat.{_<_};
 ghost use mathlib.Core.Path.{_≡_};
 ghost use mathlib.Core.List.{_++_};
 ghost use Rattle.translation.specs.Words.{digit as Words·digit, decimal as Words·decimal};
-ghost use Rattle.translation.specs.Parts.{Within, Adds};
+ghost use Rattle.translation.specs.Parts.{InRange, Adds};
 
 const DIGITS: [u8; 16] = *b"0123456789ABCDEF";
 
@@ -17,7 +17,7 @@ pub(crate) fn digit(d: usize) -> u8
 
 // All digits but the last, if there are any, then the last.
 fn decimal(out: &mut [u8], at: usize, n: usize) -> usize
-    requires { ⌜ Within at (Words·decimal n) ⌝ }
+    requires { ⌜ InRange at (Words·decimal n) ⌝ }
     ensures { λ r. ⌜ Adds (Words·decimal n) (now (out .entry)) at r (now (out .exit)) ⌝ }
 {
     if n < 10 {
@@ -29,7 +29,7 @@ fn decimal(out: &mut [u8], at: usize, n: usize) -> usize
 
 // A word and a number behind it.
 pub(crate) fn field(out: &mut [u8], at: usize, word: &[u8], n: usize) -> usize
-    requires { ⌜ Within at (now word ++ Words·decimal n) ⌝ }
+    requires { ⌜ InRange at (now word ++ Words·decimal n) ⌝ }
     ensures { λ r. ⌜ Adds (now (word .entry) ++ Words·decimal n) (now (out .entry)) at r (now (out .exit)) ⌝ }
 {
     let next = output::append(out, at, word);

@@ -1,7 +1,7 @@
 // Texts in a lent buffer. Past its end a text is only counted, so that a walk over no buffer at all measures.
 ghost use Prim.Native.Nat.{_<_};
 ghost use mathlib.Core.List.{[], _∷_};
-ghost use Rattle.translation.specs.Parts.{Within, Adds};
+ghost use Rattle.translation.specs.Parts.{InRange, Adds};
 
 pub(crate) fn put(out: &mut [u8], at: usize, byte: u8) -> usize
     requires { ⌜ at < 65536 ⌝ }
@@ -14,7 +14,7 @@ pub(crate) fn put(out: &mut [u8], at: usize, byte: u8) -> usize
 }
 
 pub(crate) fn append(out: &mut [u8], at: usize, text: &[u8]) -> usize
-    requires { ⌜ Within at (now text) ⌝ }
+    requires { ⌜ InRange at (now text) ⌝ }
     ensures { λ r. ⌜ Adds (now (text .entry)) (now (out .entry)) at r (now (out .exit)) ⌝ }
 {
     let length = text.len();

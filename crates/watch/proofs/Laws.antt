@@ -10,7 +10,7 @@ use borrow.Author.Tests.{le-ltb}
 use Rattle.watch.specs.declared.Behaviour.the-variants.{Default, OneTime, Comparator}
 use Rattle.watch.specs.declared.Watch.{Watch}
 use Rattle.watch.specs.Alarm.{fresh, inSteps, hotAfter, isSample, taken, acknowledged, Event, sample, acknowledge, after, run, recorded}
-use Rattle.watch.specs.Promises.{Runs}
+use Rattle.watch.specs.Contracts.{Runs}
 
 -- a run equals the single steps in turn, wherever it is cut
 pub run-append : (watch : Watch) (a b : List Event) → run watch (a ++ b) ≡ run (run watch a) b

@@ -10,9 +10,9 @@ use Rattle.watch.specs.declared.Behaviour.{Behaviour}
 use Rattle.watch.specs.declared.Watch.{Watch}
 use Rattle.watch.specs.declared.Sampled.{Sampled}
 use Rattle.watch.specs.declared.Sampled.the-variants.{Taken, Refused}
-use Rattle.watch.specs.Promises.{tells, Starts, Samples, Acknowledges, Shows, Runs}
+use Rattle.watch.specs.Contracts.{tellsSampled, Starts, Samples, Acknowledges, Shows, Runs}
 
-pub tells-injective : (a b : Sampled) → tells a ≡ tells b → a ≡ b
+pub tells-injective : (a b : Sampled) → tellsSampled a ≡ tellsSampled b → a ≡ b
 tells-injective (Taken v) (Taken w) e = ap (λ (t : ℕ × Watch). Taken (t .1)) e
 tells-injective (Taken v) (Refused s w) e = absurd (not-accepted s (ap (λ (t : ℕ × Watch). t .0) e))
 tells-injective (Refused r v) (Taken w) e = absurd (not-accepted r (sym (ap (λ (t : ℕ × Watch). t .0) e)))

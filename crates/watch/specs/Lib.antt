@@ -1,2 +1,2 @@
 pub mod Alarm
-pub mod Promises
+pub mod Contracts

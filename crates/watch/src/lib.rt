@@ -2,7 +2,7 @@
 use refusal::Refusal;
 ghost use mathlib.Core.Path.{_≡_};
 ghost use Rattle.watch.specs.Alarm.{isSample, inSteps, hotAfter, pendingAfter, after, sample};
-ghost use Rattle.watch.specs.Promises.{Starts, Samples, Acknowledges, Shows, Runs};
+ghost use Rattle.watch.specs.Contracts.{Starts, Samples, Acknowledges, Shows, Runs};
 
 // What makes an alarm, and what the output shows: the data sheet's default, one-time and comparator.
 pub enum Behaviour {

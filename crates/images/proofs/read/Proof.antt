@@ -6,7 +6,7 @@ use Rattle.refusal.proofs.Passed.{told-passed, told-refused}
 use Rattle.cards.specs.declared.types.Named.{Named}
 use Rattle.cards.specs.Cards.{whenKnown}
 use Rattle.images.specs.Bytes.{seen}
-use Rattle.images.specs.Images.{imageChecks}
+use Rattle.images.specs.Contracts.{imageChecks}
 use Rattle.images.proofs.Admission.{admit-known, admit-passed, admit-refused}
 use borrow.Author.Needs.{needs}
 use Rattle.images.proofs.read.Statement.{statement}

@@ -3,12 +3,12 @@
 -- Assumes nothing.
 use Rattle.refusal.specs.Checks.{first}
 use Rattle.refusal.specs.declared.Count.{Count}
-use Rattle.plans.specs.Plans.{planChecks}
+use Rattle.plans.specs.Contracts.{planChecks}
 use Rattle.scripts.specs.Scripts.{scriptFor}
 use Rattle.scripts.proofs.Lengths.{script-short}
 use Rattle.curves.proofs.Owned.{plan-typed}
 use Rattle.scripts.proofs.Buffers.{refused-by-plan, accepted-plan, count, first-pairs}
-use Rattle.plays.specs.Plays.{Plays}
+use Rattle.plays.specs.Contracts.{Plays}
 use Rattle.plays.specs.NeverSlower.{Safely}
 use Rattle.plays.proofs.NeverSlower.{plays-safely}
 use Rattle.plays.proofs.Fitting.{image-within}

@@ -9,9 +9,10 @@ use borrow.Author.Tests.{lt-ltb, le-ltb}
 use Rattle.refusal.specs.Checks.{first}
 use Rattle.refusal.specs.Answers.{tells}
 use Rattle.curves.specs.declared.Plan.{Plan}
-use Rattle.plans.specs.Plans.{planChecks}
+use Rattle.plans.specs.Contracts.{planChecks}
 use Rattle.plans.proofs.Registers.{to-the-end}
-use Rattle.records.specs.Records.{chipIn, tableIn, bodyIn, recordChecks, Plans}
+use Rattle.records.specs.Records.{chipIn, tableIn, bodyIn}
+use Rattle.records.specs.Contracts.{recordChecks, TakesBody}
 use Rattle.records.proofs.Answers.{record-refused, mark-wrong, Marked, record-cut, Complete, complete-judged, record-accepted, Taken, plan-taken}
 use Rattle.records.proofs.Encoding.{length-short}
 use Rattle.records.proofs.read.Statement.{statement}
@@ -31,7 +32,7 @@ marked c =
       mark = mark-wrong (bytes c) ∙ mark c .if2 .left;
     }
 
-from : (c : tie.After-plan-from) → Plans (chipIn (bytes c)) (tableIn (bytes c)) (bodyIn (bytes c)) (c .plan-from .result)
+from : (c : tie.After-plan-from) → TakesBody (chipIn (bytes c)) (tableIn (bytes c)) (bodyIn (bytes c)) (c .plan-from .result)
 from c = rw (to-the-end (bytes c) 4) at (c .plan-from .ensures)
 
 -- a body that is taken

@@ -16,7 +16,7 @@ use Rattle.cards.specs.declared.types.Chip.{Chip}
 use Rattle.cards.specs.declared.types.Named.the-variants.{Known}
 use Rattle.cards.specs.Cards.{chipOf}
 use Rattle.curves.specs.declared.Plan.{Plan}
-use Rattle.plans.specs.Plans.{planChecks}
+use Rattle.plans.specs.Contracts.{planChecks}
 use Rattle.records.specs.Records.{recordOf}
 use Rattle.curves.proofs.Owned.{plan-typed}
 use Rattle.records.proofs.Encoding.{record-of-plan, length-short}

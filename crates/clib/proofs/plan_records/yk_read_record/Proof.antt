@@ -1,6 +1,6 @@
 -- `plan_records::yk_read_record` meets its contract: it packs the bytes used, and the chip and the table of the plan that is read.
 -- Assumes nothing.
-use Rattle.records.specs.Records.{recordChecks}
+use Rattle.records.specs.Contracts.{recordChecks}
 use Rattle.clib.proofs.Within.{told-within, used-within}
 use borrow.Author.Needs.{needs}
 use Rattle.clib.proofs.plan_records.yk_read_record.Statement.{statement}

@@ -18,9 +18,9 @@ abbrev pub sampleChecks : ℤ → List Check
 sampleChecks steps = (not (isSample steps), 12) ∷ []
 
 -- the paper's number, 0 where the sample is accepted, and the watch of each case
-abbrev pub tells : Sampled → ℕ × Watch
-tells (Taken watch) = (0, watch)
-tells (Refused r watch) = (numberOf r, watch)
+abbrev pub tellsSampled : Sampled → ℕ × Watch
+tellsSampled (Taken watch) = (0, watch)
+tellsSampled (Refused r watch) = (numberOf r, watch)
 
 -- what `watch::Watch::new` promises
 pub record Starts (behaviour : Behaviour) (r : Watch) : Type 0 where
@@ -28,7 +28,7 @@ pub record Starts (behaviour : Behaviour) (r : Watch) : Type 0 where
 
 -- what `watch::Watch::sample` promises: "A refusal returns its number .. (a watch comes back unchanged)"
 pub record Samples (watch : Watch) (steps high hysteresis : ℤ) (r : Sampled) : Type 0 where
-  pub answer : tells r ≡ (first (sampleChecks steps), after watch (sample steps high hysteresis))
+  pub answer : tellsSampled r ≡ (first (sampleChecks steps), after watch (sample steps high hysteresis))
 
 -- what `watch::Watch::acknowledge` promises
 pub record Acknowledges (watch r : Watch) : Type 0 where

@@ -34,11 +34,11 @@ pub record Encodes (number : ℤ) (word : ℕ) : Type 0 where
   pub answer : word ≡ asWord number
 
 -- what `readings::steps_of` promises
-pub record Counts (width high low : ℕ) (r : Steps) : Type 0 where
+pub record CountsSteps (width high low : ℕ) (r : Steps) : Type 0 where
   pub answer : tellsSteps r ≡ toldOr (pos 0) (stepsChecks width) (stepsAt width high low)
 
 -- what `readings::bytes_of` promises
-pub record Writes (width : ℕ) (steps : ℤ) (r : Bytes) : Type 0 where
+pub record GivesBytes (width : ℕ) (steps : ℤ) (r : Bytes) : Type 0 where
   pub answer : tellsBytes r ≡ toldOr (0, 0) (bytesChecks width steps) (bytesAt width steps)
 
 -- what `readings::microvolts` promises

@@ -1,0 +1,39 @@
+-- What the calls of `cards` promise.
+-- Assumes nothing.
+use Prim.Native.Nat.{ℕ}
+use mathlib.Core.Bool.{cond}
+use mathlib.Core.Path.{_≡_}
+use Rattle.cards.specs.declared.types.Chip.{Chip}
+use Rattle.cards.specs.declared.types.Named.{Named}
+use Rattle.cards.specs.declared.types.Masks.{Masks}
+use Rattle.cards.specs.declared.types.Required.{Required}
+use Rattle.cards.specs.declared.types.Sizes.{Sizes}
+use Rattle.cards.specs.declared.types.Place.{Place}
+use Rattle.cards.specs.declared.types.Place.the-variants.{At, Nowhere}
+use Rattle.cards.specs.Rows.{masksIn, requiredIn}
+use Rattle.cards.specs.Sheets.{sizesIn}
+use Rattle.cards.specs.Cards.{sheetOf, chipOf, rowOf, hasTable, baseOf}
+
+-- what `cards::chip_of` promises
+pub record Names (number : ℕ) (named : Named) : Type 0 where
+  pub answer : named ≡ chipOf number
+
+-- what `cards::masks_of` promises
+pub record Finds (chip : Chip) (position : ℕ) (masks : Masks) : Type 0 where
+  pub answer : masks ≡ masksIn (rowOf chip position)
+
+-- what `cards::power_on_of` promises
+pub record PowersOn (chip : Chip) (position byte : ℕ) : Type 0 where
+  pub answer : byte ≡ rowOf chip position .power
+
+-- what `cards::sizes_of` promises
+pub record TellsSizes (chip : Chip) (sizes : Sizes) : Type 0 where
+  pub answer : sizes ≡ sizesIn (sheetOf chip)
+
+-- what `cards::required_of` promises
+pub record Requires (chip : Chip) (k : ℕ) (required : Required) : Type 0 where
+  pub answer : required ≡ requiredIn (sheetOf chip .identity) k
+
+-- what `cards::table_at` promises
+pub record Places (chip : Chip) (number : ℕ) (place : Place) : Type 0 where
+  pub answer : place ≡ cond (hasTable chip number) (At (baseOf chip number)) Nowhere
