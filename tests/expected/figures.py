@@ -1,5 +1,5 @@
 #!/usr/bin/env python3
-"""Writes what each program NAME_figures must print, from the rules paper and the second reading of the data sheets, to NAME_figures/stdout of a folder.
+"""Writes what each program figures_NAME must print, from the rules paper and the second reading of the data sheets, to figures_NAME/stdout of a folder.
 
     python3 tests/expected/figures.py crates
 
@@ -20,12 +20,12 @@ from scripts import scripts
 from watch import watches
 
 PROGRAMS = {
-    "chip_figures": (rows, image_calls, stored, identity_bits, no_identity),
-    "reading_figures": (temperatures, sensors, voltages),
-    "watch_figures": (watches,),
-    "plan_figures": (curves,),
-    "record_figures": (records,),
-    "script_figures": (scripts,),
+    "figures_chips": (rows, image_calls, stored, identity_bits, no_identity),
+    "figures_readings": (temperatures, sensors, voltages),
+    "figures_watch": (watches,),
+    "figures_plans": (curves,),
+    "figures_records": (records,),
+    "figures_scripts": (scripts,),
 }
 
 if __name__ == "__main__":

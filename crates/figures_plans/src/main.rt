@@ -1,0 +1,147 @@
+// Prints what curves ask, of plans and of images: `.. at T is S`. proofs/ has the starred figures, of readings, the watch and
+// curves, and where those layers agree.
+use curves::Plan;
+use plans::Asked;
+
+fn end(chip: u8, t: u8, asked: Asked) {
+    figures_printing::text(b" at ");
+    figures_samples::degrees(chip, t);
+    figures_printing::text(b" is");
+    figures_samples::speed(chip, asked);
+    figures_printing::line_end();
+}
+
+fn paper_at(t: u8) {
+    figures_printing::text(b"plan duty");
+    end(1, t, plans::asked_of_plan(figures_samples::paper(1, 3), t));
+}
+
+fn steps_at(t: u8) {
+    figures_printing::text(b"steps count");
+    end(2, t, plans::asked_of_plan(figures_samples::stepped(), t));
+}
+
+fn plan_at(plan: Plan, t: u8) {
+    figures_printing::text(b"asked");
+    figures_samples::show(plan);
+    end(plan.chip, t, plans::asked_of_plan(plan, t));
+}
+
+// The rules paper's figures.
+fn figures() {
+    paper_at(30);
+    paper_at(33);
+    paper_at(45);
+    paper_at(53);
+    paper_at(58);
+    paper_at(60);
+    plan_at(
+        figures_samples::slope(1, 1, [50, 40, 60, 70], 100, [11, 22, 33, 44]),
+        45,
+    );
+    plan_at(
+        figures_samples::slope(1, 1, [0, 3, 60, 70], 100, [200, 100, 33, 44]),
+        1,
+    );
+    steps_at(61);
+    steps_at(60);
+    steps_at(51);
+}
+
+// From -128 to 127: the bytes with their top bit turned over are in order.
+fn whole_curve() {
+    for k in 0..=255u8 {
+        paper_at(k ^ 0x80);
+    }
+}
+
+// Above, at and below each bound, and at both ends.
+fn all_steps() {
+    steps_at(255);
+    steps_at(61);
+    steps_at(60);
+    steps_at(59);
+    steps_at(51);
+    steps_at(50);
+    steps_at(49);
+    steps_at(41);
+    steps_at(40);
+    steps_at(39);
+    steps_at(31);
+    steps_at(30);
+    steps_at(29);
+    steps_at(0);
+}
+
+// A plan is asked in order or not: only its chip and its table are checked.
+fn unordered() {
+    for k in 0..14u8 {
+        plan_at(figures_samples::refused(k), 45);
+    }
+}
+
+fn temperature(k: u8) -> u8 {
+    match k {
+        0 => 0x80,
+        1 => 0xFF,
+        2 => 0,
+        3 => 25,
+        4 => 26,
+        5 => 30,
+        6 => 31,
+        7 => 45,
+        8 => 51,
+        9 => 59,
+        10 => 60,
+        11 => 61,
+        _ => 0x7F,
+    }
+}
+
+fn image_at(chip: u8, table: u8, image: &[u8], t: u8) {
+    figures_printing::labelled(b"image chip ", chip as u64);
+    figures_printing::labelled(b" table ", table as u64);
+    figures_printing::labelled(b" length ", image.len() as u64);
+    end(chip, t, plans::asked_of_image(chip, table, image, t));
+}
+
+fn power_on(chip: u8, table: u8) {
+    let mut image = [0u8; 256];
+    images::reset(chip, &mut image);
+    for k in 0..13u8 {
+        image_at(chip, table, &image, temperature(k));
+    }
+}
+
+// Of bytes that are all 5Ah, one too few for an image, as many as it has, and one too many.
+fn lengths(chip: u8, table: u8) {
+    image_at(chip, table, &[figures_printing::FILL; 255], 91);
+    image_at(chip, table, &[figures_printing::FILL; 256], 91);
+    image_at(chip, table, &[figures_printing::FILL; 257], 91);
+}
+
+fn tables(chip: u8) {
+    lengths(chip, 0);
+    lengths(chip, 1);
+    lengths(chip, 2);
+    lengths(chip, 3);
+    lengths(chip, 4);
+}
+
+fn main() {
+    figures();
+    whole_curve();
+    all_steps();
+    unordered();
+    power_on(1, 1);
+    power_on(1, 2);
+    power_on(1, 3);
+    power_on(2, 1);
+    power_on(2, 2);
+    tables(0);
+    tables(1);
+    tables(2);
+    tables(3);
+    tables(4);
+    tables(255);
+}

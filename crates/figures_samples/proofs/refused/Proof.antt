@@ -1,0 +1,138 @@
+-- `refused` meets its contract: each arm knows its number, and the last one that the list has no entry for it.
+-- Assumes nothing.
+use borrow.Author.Needs.{needs}
+use Prim.Native.Nat.{ℕ, zero, suc, _≤_}
+use native.Mathlib.Omega.{arith}
+use mathlib.Core.Path.{_≡_, sym, ap, _∙_}
+use lib.ListN.{List·getD-eq-default}
+use Rattle.figures_samples.specs.Samples.{refusedOnes, refusedAt}
+use Rattle.figures_samples.proofs.refused.Statement.{statement}
+use Rattle.figures_samples.proofs.refused.Tie as tie
+
+-- k is no number below n, as the last arm of a match knows it; so it is n or more
+abbrev None-below : ℕ → ℕ → Type 0
+None-below zero k = Unit {0}
+None-below (suc n) k = None-below n k × (k ≡ n → ⊥)
+
+past : (n k : ℕ) → None-below n k → n ≤ k
+past zero k none = omega arith
+past (suc n) k none = omega (arith, past n k (none .0), none .1)
+
+paper-requires : tie.Need-paper-requires
+paper-requires c κs = search needs
+
+slope-requires : tie.Need-slope-requires
+slope-requires c κs = search needs
+
+paper-requires-2 : tie.Need-paper-requires-2
+paper-requires-2 c κs = search needs
+
+paper-requires-3 : tie.Need-paper-requires-3
+paper-requires-3 c κs = search needs
+
+slope-requires-2 : tie.Need-slope-requires-2
+slope-requires-2 c κs = search needs
+
+steps-requires : tie.Need-steps-requires
+steps-requires c κs = search needs
+
+paper-requires-4 : tie.Need-paper-requires-4
+paper-requires-4 c κs = search needs
+
+slope-requires-3 : tie.Need-slope-requires-3
+slope-requires-3 c κs = search needs
+
+slope-requires-4 : tie.Need-slope-requires-4
+slope-requires-4 c κs = search needs
+
+slope-requires-5 : tie.Need-slope-requires-5
+slope-requires-5 c κs = search needs
+
+steps-requires-2 : tie.Need-steps-requires-2
+steps-requires-2 c κs = search needs
+
+steps-requires-3 : tie.Need-steps-requires-3
+steps-requires-3 c κs = search needs
+
+slope-requires-6 : tie.Need-slope-requires-6
+slope-requires-6 c κs = search needs
+
+steps-requires-4 : tie.Need-steps-requires-4
+steps-requires-4 c κs = search needs
+
+returns : tie.Need-returns
+returns c = c .paper .ensures ∙ sym (ap refusedAt (c .before .match .keys1))
+
+returns-2 : tie.Need-returns-2
+returns-2 c = c .slope .ensures ∙ sym (ap refusedAt (c .before .match .keys2))
+
+returns-3 : tie.Need-returns-3
+returns-3 c = c .paper2 .ensures ∙ sym (ap refusedAt (c .before .match .keys3))
+
+returns-4 : tie.Need-returns-4
+returns-4 c = c .paper3 .ensures ∙ sym (ap refusedAt (c .before .match .keys4))
+
+returns-5 : tie.Need-returns-5
+returns-5 c = c .slope2 .ensures ∙ sym (ap refusedAt (c .before .match .keys5))
+
+returns-6 : tie.Need-returns-6
+returns-6 c = c .steps .ensures ∙ sym (ap refusedAt (c .before .match .keys6))
+
+returns-7 : tie.Need-returns-7
+returns-7 c = c .paper4 .ensures ∙ sym (ap refusedAt (c .before .match .keys7))
+
+returns-8 : tie.Need-returns-8
+returns-8 c = c .slope3 .ensures ∙ sym (ap refusedAt (c .before .match .keys8))
+
+returns-9 : tie.Need-returns-9
+returns-9 c = c .slope4 .ensures ∙ sym (ap refusedAt (c .before .match .keys9))
+
+returns-10 : tie.Need-returns-10
+returns-10 c = c .slope5 .ensures ∙ sym (ap refusedAt (c .before .match .keys10))
+
+returns-11 : tie.Need-returns-11
+returns-11 c = c .steps2 .ensures ∙ sym (ap refusedAt (c .before .match .keys11))
+
+returns-12 : tie.Need-returns-12
+returns-12 c = c .steps3 .ensures ∙ sym (ap refusedAt (c .before .match .keys12))
+
+returns-13 : tie.Need-returns-13
+returns-13 c = c .slope6 .ensures ∙ sym (ap refusedAt (c .before .match .keys13))
+
+returns-14 : tie.Need-returns-14
+returns-14 c =
+    let k = c .before .before .args .k in
+    c .steps4 .ensures ∙ sym (List·getD-eq-default refusedOnes _ {n = k} (past 13 k (c .before .match .rest)))
+
+pub refused-spec : {M : Type 1} → statement M
+refused-spec =
+    tie.close
+    (tie.spec
+    paper-requires
+    slope-requires
+    paper-requires-2
+    paper-requires-3
+    slope-requires-2
+    steps-requires
+    paper-requires-4
+    slope-requires-3
+    slope-requires-4
+    slope-requires-5
+    steps-requires-2
+    steps-requires-3
+    slope-requires-6
+    steps-requires-4
+    returns
+    returns-2
+    returns-3
+    returns-4
+    returns-5
+    returns-6
+    returns-7
+    returns-8
+    returns-9
+    returns-10
+    returns-11
+    returns-12
+    returns-13
+    returns-14)

@@ -1,0 +1,55 @@
+-- `demand_lines::changed` is safe and ends: the loop counts up to 256.
+-- Assumes nothing.
+use borrow.Author.Needs.{needs}
+use Prim.Native.Nat.{_≤_, _-_}
+use Rattle.figures_scripts.proofs.demand_lines.changed.Statement.{statement}
+use Rattle.figures_scripts.proofs.demand_lines.changed.Tie as tie
+
+abbrev Inv-loop : tie.InvT-loop
+Inv-loop old new count₀ at₀ count at = at ≤ 256
+
+abbrev μ-loop : tie.MeasureT-loop
+μ-loop old new count₀ at₀ count at = 256 - at
+
+loop-holds : tie.Need-loop-holds Inv-loop μ-loop
+loop-holds c = search needs
+
+array-read-differ : tie.Need-array-read-differ Inv-loop μ-loop
+array-read-differ c = search needs
+
+array-read-differ-2 : tie.Need-array-read-differ-2 Inv-loop μ-loop
+array-read-differ-2 c = search needs
+
+differ-requires : tie.Need-differ-requires Inv-loop μ-loop
+differ-requires c κs = search needs
+
+wrapping-add-u64-requires : tie.Need-wrapping-add-u64-requires Inv-loop μ-loop
+wrapping-add-u64-requires c κs = search needs
+
+add-at : tie.Need-add-at Inv-loop μ-loop
+add-at c = search needs
+
+loop-less : tie.Need-loop-less Inv-loop μ-loop
+loop-less c = search needs
+
+loop-again : tie.Need-loop-again Inv-loop μ-loop
+loop-again c = search needs
+
+returns : tie.Need-returns Inv-loop μ-loop
+returns c = search needs
+
+pub changed-spec : {M : Type 1} → statement M
+changed-spec =
+    tie.close
+    (tie.spec
+    Inv-loop
+    μ-loop
+    loop-holds
+    array-read-differ
+    array-read-differ-2
+    differ-requires
+    wrapping-add-u64-requires
+    add-at
+    loop-less
+    loop-again
+    returns)

@@ -1,0 +1,97 @@
+// Scripts written to a buffer that was filled with 5Ah, `script PLAN room N writes N out BYTES`, and plays that are refused:
+// `play PLAN length L refused R kept`.
+use curves::Plan;
+use refusal::Count;
+
+pub fn made(answer: Count) {
+    figures_printing::counted(b" writes ", answer);
+}
+
+fn script_to_part(plan: Plan, buffer: &mut [u8], room: usize) {
+    if room <= buffer.len() {
+        made(scripts::script(plan, &mut buffer[..room]));
+    }
+}
+
+fn script(plan: Plan, room: usize) {
+    let mut buffer = [figures_printing::FILL; 50];
+    figures_printing::text(b"script");
+    figures_samples::show(plan);
+    figures_printing::labelled(b" room ", room as u64);
+    script_to_part(plan, &mut buffer, room);
+    figures_printing::text(b" out");
+    figures_printing::bytes(&buffer);
+    figures_printing::line_end();
+}
+
+// 9 where a byte is missing.
+fn rooms() {
+    script(figures_samples::paper(1, 3), 25);
+    script(figures_samples::paper(1, 3), 26);
+    script(figures_samples::stepped(), 47);
+    script(figures_samples::stepped(), 48);
+}
+
+// A script for every table of every chip; a tail is kept.
+fn tables() {
+    script(figures_samples::paper(1, 1), 50);
+    script(figures_samples::paper(1, 2), 50);
+    script(figures_samples::paper(1, 3), 50);
+    script(figures_samples::stepped(), 50);
+    let fan_2 = figures_samples::steps(
+        2,
+        [75, 65, 45, 35],
+        [0x1112, 0x1314, 0x1516, 0x1718, 0x191A],
+    );
+    script(fan_2, 50);
+}
+
+// Into no room and into plenty: 7 is before 9.
+fn refused_scripts() {
+    for k in 0..14u8 {
+        script(figures_samples::refused(k), 0);
+        script(figures_samples::refused(k), 50);
+    }
+}
+
+// On an image that is all 5Ah, which is no chip's.
+fn play_on_part(plan: Plan, buffer: &mut [u8], length: usize) {
+    if length <= buffer.len() {
+        made(plays::play(plan, &mut buffer[..length], 24));
+    }
+}
+
+fn play(plan: Plan, length: usize) {
+    let mut buffer = [figures_printing::FILL; 257];
+    figures_printing::text(b"play");
+    figures_samples::show(plan);
+    figures_printing::labelled(b" length ", length as u64);
+    play_on_part(plan, &mut buffer, length);
+    figures_printing::kept(&buffer);
+    figures_printing::line_end();
+}
+
+// On too few bytes for an image, and on enough: 7 is before 8 and 10.
+fn refused_plays() {
+    for k in 0..14u8 {
+        play(figures_samples::refused(k), 255);
+        play(figures_samples::refused(k), 256);
+    }
+}
+
+// 8, and 8 before 10.
+fn not_images(plan: Plan) {
+    play(plan, 0);
+    play(plan, 255);
+    play(plan, 256);
+    play(plan, 257);
+}
+
+pub fn print_all() {
+    rooms();
+    tables();
+    refused_scripts();
+    refused_plays();
+    not_images(figures_samples::paper(1, 3));
+    not_images(figures_samples::stepped());
+}
