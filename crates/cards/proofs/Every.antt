@@ -23,6 +23,12 @@ of-every test (a ∷ l) other t zero h = both (test a) (every test l) t .0
 of-every test (a ∷ l) other t (suc k) h =
     of-every test l other (both (test a) (every test l) t .1) k (le-of-suc-le-suc h)
 
+-- and to what stands in behind the last entry, where that passes too
+pub everywhere : {A : Type 0} (test : A → Bool) (l : List A) (other : A) → So (test other) → So (every test l) → (k : ℕ) → So (test (getD l k other))
+everywhere test [] other o t k = o
+everywhere test (a ∷ l) other o t zero = both (test a) (every test l) t .0
+everywhere test (a ∷ l) other o t (suc k) = everywhere test l other o (both (test a) (every test l) t .1) k
+
 abbrev pub distinct : List ℕ → Bool
 distinct [] = true
 distinct (p ∷ ps) = every (λ q. not (eqb p q)) ps && distinct ps

@@ -1,9 +1,9 @@
 -- What every page must pass, as one test that is computed over it, what this says fact by fact, and that each chip's page passes.
 -- Assumes nothing.
-use Prim.Native.Nat.{ℕ, suc, _+_, _^_, _≤_, _<_}
+use Prim.Native.Nat.{ℕ, suc, _^_, _≤_, _<_}
 use native.Mathlib.Omega.{arith}
 use mathlib.Core.Path.{refl}
-use mathlib.Core.Bool.{Bool, true, So, _&&_}
+use mathlib.Core.Bool.{Bool, true, false, So, _&&_}
 use mathlib.Core.List.{List, [], _∷_}
 use borrow.Author.Tests.{leb-true}
 use lib.Bits.{bitAnd}
@@ -12,6 +12,8 @@ use lib.ListN.{length, getD}
 use Rattle.cards.specs.declared.types.Chip.{Chip}
 use Rattle.cards.specs.declared.types.Chip.the-variants.{Nct7802y, F75373s, Nct80}
 use Rattle.cards.specs.declared.types.Required.{Required}
+use Rattle.cards.specs.declared.types.Shape.{Shape}
+use Rattle.cards.specs.declared.types.Shape.the-variants.{Slope, Steps}
 use Rattle.cards.specs.Rows.{Line, Row, Table, positions, rowIn, column}
 use Rattle.cards.specs.Sheets.{Sheet, powerOnIn, tableIn}
 use Rattle.cards.specs.Cards.{sheetOf}
@@ -42,21 +44,22 @@ lasting sheet r = ltb (r .position) (sheet .size) && fixed (rowIn (sheet .card) 
 abbrev pub free : Sheet → ℕ → Bool
 free sheet position = eqb (rowIn (sheet .card) position .writable) 0xFF && ltb position (sheet .size)
 
--- no two registers of a table in one place
+-- no two registers of a table in one place, and no more of them than the longest body has bytes
 abbrev pub separate : Sheet → Table → Bool
-separate sheet table = every (free sheet) (positions table) && distinct (positions table)
+separate sheet table = every (free sheet) (positions table) && (distinct (positions table) && leb (length (positions table)) 14)
 
--- consecutive numbers
-abbrev pub consecutive : ℕ → List ℕ → Bool
-consecutive first [] = true
-consecutive first (p ∷ ps) = eqb p first && consecutive (suc first) ps
+-- one kind of curve
+abbrev pub ofShape : Shape → Shape → Bool
+ofShape (Slope full) (Slope other) = eqb full other
+ofShape (Slope full) Steps = false
+ofShape Steps (Slope other) = false
+ofShape Steps Steps = true
 
--- a table stands in a row, and is as long as another
+-- a table is laid out as another
 abbrev pub alike : Table → Table → Bool
 alike other table =
-    (eqb (length (table .settings)) (length (other .settings)) && eqb (length (table .speeds)) (length (other .speeds)))
-    && (consecutive (getD (table .settings) 0 0) (table .settings)
-    && consecutive (getD (table .settings) 0 0 + length (table .settings)) (table .speeds))
+    ofShape (table .shape) (other .shape)
+    && (eqb (length (table .settings)) (length (other .settings)) && eqb (length (table .speeds)) (length (other .speeds)))
 
 abbrev tests : Sheet → List Bool
 tests sheet =
@@ -81,7 +84,7 @@ pub record Sound (sheet : Sheet) : Type 0 where
   -- a reset image is the chip's
   pub starts : So (allHold (powerOnIn sheet) (sheet .identity))
   pub tables : So (every (separate sheet) (sheet .tables))
-  -- what `table_at` counts on, which tells of a table only where it begins
+  -- what each chip's module counts on, which has one layout for its tables
   pub rows : So (every (alike (tableIn (sheet .tables) 1)) (sheet .tables))
 
 module _ (sheet : Sheet) (t : So (sound sheet)) where

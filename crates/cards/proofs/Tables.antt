@@ -1,22 +1,25 @@
 -- "All fan table registers have mask FFh", and a table's registers are distinct addresses: of any page that passes its test, carried to each position.
 -- Assumes nothing.
-use Prim.Native.Nat.{ℕ, suc, _+_, _-_, _≤_, _<_}
+use Prim.Native.Nat.{ℕ, zero, suc, _≤_, _<_}
 use native.Mathlib.Omega.{arith}
-use mathlib.Core.Path.{_≡_, refl, sym, ap₂, _∙_}
-use mathlib.Core.Bool.{Bool, true, false, So, cond, _&&_}
-use mathlib.Core.List.{List, [], _∷_, _++_}
-use borrow.Author.Tests.{eqb-true, ltb-true, leb-true}
+use mathlib.Core.Path.{_≡_, refl, sym, ap, _∙_}
+use mathlib.Core.Bool.{Bool, true, false, So, cond, true≢false, _&&_}
+use mathlib.Core.List.{List, [], _∷_}
+use borrow.Author.Tests.{eqb-true, ltb-true, leb-true, le-leb}
 use lib.Dec.{eqb, leb, ltb}
-use lib.ListN.{length, getD}
+use lib.ListN.{length, getD, List·getD-eq-default}
 use Rattle.cards.specs.declared.types.Chip.{Chip}
-use Rattle.cards.specs.declared.types.Place.{Place}
-use Rattle.cards.specs.declared.types.Place.the-variants.{At, Nowhere}
-use Rattle.cards.specs.Rows.{Table, positions, rowIn, from, inARow}
-use Rattle.cards.specs.Sheets.{Sheet, hasTableIn, tableIn}
-use Rattle.cards.specs.Cards.{sheetOf, sizeOf, rowOf, tablesOf, hasTable, tableOf, tableFrom, baseOf}
-use Rattle.cards.specs.Contracts.{Places}
-use Rattle.cards.proofs.Every.{every, both, of-every, distinct, apart}
-use Rattle.cards.proofs.Sound.{free, separate, consecutive, alike, Sound, sound-sheet}
+use Rattle.cards.specs.declared.types.Shape.{Shape}
+use Rattle.cards.specs.declared.types.Shape.the-variants.{Slope, Steps}
+use Rattle.cards.specs.declared.types.Layout.{Layout}
+use Rattle.cards.specs.declared.types.Fan.{Fan}
+use Rattle.cards.specs.declared.types.Fan.the-variants.{Laid, Nothing}
+use Rattle.cards.specs.Rows.{Table, positions, rowIn}
+use Rattle.cards.specs.Sheets.{Sheet, missing, hasTableIn, tableIn, layout, laidIn, registerIn}
+use Rattle.cards.specs.Cards.{sheetOf, sizeOf, rowOf, tablesOf, hasTable, tableOf}
+use Rattle.cards.specs.Contracts.{Lays}
+use Rattle.cards.proofs.Every.{every, both, of-every, everywhere, distinct, apart}
+use Rattle.cards.proofs.Sound.{free, separate, ofShape, alike, Sound, sound-sheet}
 
 -- tables have the numbers from 1 on
 numbered : (tables : List Table) (number : ℕ) → So (hasTableIn tables number) → (1 ≤ number) × (number ≤ length tables)
@@ -34,45 +37,54 @@ pub no-number : (number count : ℕ) → (1 ≤ number → number ≤ count → 
 no-number number count h =
     neither (leb 1 number) (leb number count) (λ p q. h (leb-true 1 number p) (leb-true number count q))
 
--- consecutive numbers are a run
-in-a-row : (first : ℕ) (ps : List ℕ) → So (consecutive first ps) → ps ≡ from first (length ps)
-in-a-row first [] t = refl
-in-a-row first (p ∷ ps) t =
-    let parts = both (eqb p first) (consecutive (suc first) ps) t in
-    ap₂ (λ (q : ℕ) (qs : List ℕ). q ∷ qs) (eqb-true p first (parts .0)) (in-a-row (suc first) ps (parts .1))
+-- where there is no table, there is no register
+pub no-register : (tables : List Table) (number k : ℕ) → (1 ≤ number → number ≤ length tables → ⊥) → registerIn tables number k ≡ 0
+no-register tables zero k h = refl
+no-register tables (suc n) k h = ap (λ (t : Table). getD (positions t) k 0) (List·getD-eq-default tables missing (beyond (h (omega arith))))
+  where
+    beyond : (suc n ≤ length tables → ⊥) → length tables ≤ n
+    beyond f = omega (arith, f)
 
--- a table that is like another is as long, and stands in a row
-stands : (other table : Table) → So (alike other table)
-    → table ≡ inARow (getD (table .settings) 0 0) (length (other .settings)) (length (other .speeds))
-stands other table t =
-    let base = getD (table .settings) 0 0 in
-    let parts = both (eqb (length (table .settings)) (length (other .settings)) && eqb (length (table .speeds)) (length (other .speeds))) _ t in
-    let long = both (eqb (length (table .settings)) (length (other .settings))) _ (parts .0) in
-    let runs = both (consecutive base (table .settings)) _ (parts .1) in
-    let settings = eqb-true (length (table .settings)) (length (other .settings)) (long .0) in
-    let speeds = eqb-true (length (table .speeds)) (length (other .speeds)) (long .1) in
-    (λ i. record { settings = in-a-row base (table .settings) (runs .0) i; speeds = in-a-row (base + length (table .settings)) (table .speeds) (runs .1) i })
-    ∙ ap₂ (λ (s v : ℕ). inARow base s v) settings speeds
+one-shape : (a b : Shape) → So (ofShape a b) → a ≡ b
+one-shape (Slope full) (Slope other) t = ap Slope (eqb-true full other t)
+one-shape (Slope full) Steps t = absurd (true≢false (sym t))
+one-shape Steps (Slope other) t = absurd (true≢false (sym t))
+one-shape Steps Steps t = refl
 
--- of any page that passes, and any table that it has
-module _ (sheet : Sheet) (S : Sound sheet) (number : ℕ) (has : So (hasTableIn (sheet .tables) number)) where
+-- a table that is like another is laid out as it
+laid-alike : (other table : Table) → So (alike other table) → layout table ≡ layout other
+laid-alike other table t =
+    let shape = both (ofShape (table .shape) (other .shape)) _ t in
+    let long = both (eqb (length (table .settings)) (length (other .settings))) _ (shape .1) in
+    (λ i. record {
+      settings = eqb-true (length (table .settings)) (length (other .settings)) (long .0) i;
+      speeds = eqb-true (length (table .speeds)) (length (other .speeds)) (long .1) i;
+      shape = one-shape (table .shape) (other .shape) (shape .0) i;
+    })
+
+-- of any page that passes, and any number: a table that is missing has no register to speak of
+module _ (sheet : Sheet) (S : Sound sheet) (number : ℕ) where
   abbrev table : Table
   table = tableIn (sheet .tables) number
 
-  there : number - 1 < length (sheet .tables)
-  there = let n = numbered (sheet .tables) number has in omega (arith, n .0, n .1)
-
-  tested-table : So (every (free sheet) (positions table)) × So (distinct (positions table))
-  tested-table =
-      both (every (free sheet) (positions table)) _ (of-every (separate sheet) (sheet .tables) _ (S .tables) (number - 1) there)
+  tested-table : So (every (free sheet) (positions table)) × So (distinct (positions table) && leb (length (positions table)) 14)
+  tested-table = both (every (free sheet) (positions table)) _ (everywhere (separate sheet) (missing ∷ sheet .tables) missing refl (S .tables) number)
 
   sheet-distinct : (j k : ℕ) → j < length (positions table) → k < length (positions table) → getD (positions table) j 0 ≡ getD (positions table) k 0 → j ≡ k
-  sheet-distinct = apart (positions table) (tested-table .1)
+  sheet-distinct = apart (positions table) (both (distinct (positions table)) _ (tested-table .1) .0)
 
-  sheet-at-base : table ≡ inARow (getD (table .settings) 0 0) (length (tableIn (sheet .tables) 1 .settings)) (length (tableIn (sheet .tables) 1 .speeds))
-  sheet-at-base =
-      stands (tableIn (sheet .tables) 1) table
-      (of-every (alike (tableIn (sheet .tables) 1)) (sheet .tables) _ (S .rows) (number - 1) there)
+  sheet-short : length (positions table) ≤ 14
+  sheet-short = leb-true (length (positions table)) 14 (both (distinct (positions table)) _ (tested-table .1) .1)
+
+  sheet-byte : (k : ℕ) → getD (positions table) k 0 < 256
+  sheet-byte = within (positions table) (tested-table .0)
+    where
+      within : (ps : List ℕ) → So (every (free sheet) ps) → (k : ℕ) → getD ps k 0 < 256
+      within [] t k = omega arith
+      within (p ∷ ps) t zero =
+          let free-p = both (free sheet p) _ t .0 in
+          omega (arith, ltb-true p (sheet .size) (both (eqb (rowIn (sheet .card) p .writable) 0xFF) _ free-p .1), S .size)
+      within (p ∷ ps) t (suc k) = within ps (both (free sheet p) _ t .1) k
 
   module _ (k : ℕ) (h : k < length (positions table)) where
     abbrev position : ℕ
@@ -88,6 +100,27 @@ module _ (sheet : Sheet) (S : Sound sheet) (number : ℕ) (has : So (hasTableIn 
     sheet-within : position < sheet .size
     sheet-within = ltb-true position (sheet .size) (tested-position .1)
 
+-- of a table that it has
+module _ (sheet : Sheet) (S : Sound sheet) (number : ℕ) (has : So (hasTableIn (sheet .tables) number)) where
+  alike-first : So (alike (tableIn (sheet .tables) 1) (tableIn (sheet .tables) number))
+  alike-first = by-number number (numbered (sheet .tables) number has)
+    where
+      by-number : (n : ℕ) → (1 ≤ n) × (n ≤ length (sheet .tables)) → So (alike (tableIn (sheet .tables) 1) (tableIn (sheet .tables) n))
+      by-number zero h = absurd (omega (arith, h .0))
+      by-number (suc n) h = of-every (alike (tableIn (sheet .tables) 1)) (sheet .tables) missing (S .rows) n (h .1)
+
+  sheet-laid : layout (tableIn (sheet .tables) number) ≡ layout (tableIn (sheet .tables) 1)
+  sheet-laid = laid-alike (tableIn (sheet .tables) 1) (tableIn (sheet .tables) number) alike-first
+
+module _ (chip : Chip) (number : ℕ) where
+  -- no more registers than the longest body has bytes
+  pub table-short : length (positions (tableOf chip number)) ≤ 14
+  table-short = sheet-short (sheetOf chip) (sound-sheet chip) number
+
+  -- a register is a byte's address, and so is what stands in where there is none
+  pub register-byte : (k : ℕ) → registerIn (tablesOf chip) number k < 256
+  register-byte = sheet-byte (sheetOf chip) (sound-sheet chip) number
+
 module _ (chip : Chip) (number : ℕ) (has : So (hasTable chip number)) where
   pub table-number : (1 ≤ number) × (number ≤ length (tablesOf chip))
   table-number = numbered (tablesOf chip) number has
@@ -95,40 +128,39 @@ module _ (chip : Chip) (number : ℕ) (has : So (hasTable chip number)) where
   -- "All fan table registers have mask FFh"
   pub table-mask : (k : ℕ) → k < length (positions (tableOf chip number)) → rowOf chip (getD (positions (tableOf chip number)) k 0) .writable ≡ 0xFF
   unfolding rowOf
-  table-mask k h = sheet-mask (sheetOf chip) (sound-sheet chip) number has k h
+  table-mask k h = sheet-mask (sheetOf chip) (sound-sheet chip) number k h
 
   pub table-within : (k : ℕ) → k < length (positions (tableOf chip number)) → getD (positions (tableOf chip number)) k 0 < sizeOf chip
-  table-within k h = sheet-within (sheetOf chip) (sound-sheet chip) number has k h
-
-  -- a table begins no further than at the image's end
-  pub base-inside : baseOf chip number ≤ sizeOf chip
-  base-inside = by-settings (tableOf chip number .settings) (tableOf chip number .speeds) (table-within 0)
-    where
-      by-settings : (settings speeds : List ℕ) → (0 < length (settings ++ speeds) → getD (settings ++ speeds) 0 0 < sizeOf chip) → getD settings 0 0 ≤ sizeOf chip
-      by-settings [] speeds h = omega arith
-      by-settings (p ∷ ps) speeds h = omega (arith, h (omega arith))
+  table-within k h = sheet-within (sheetOf chip) (sound-sheet chip) number k h
 
   -- no two registers of a table share a position
   pub table-distinct : (j k : ℕ) → j < length (positions (tableOf chip number)) → k < length (positions (tableOf chip number))
       → getD (positions (tableOf chip number)) j 0 ≡ getD (positions (tableOf chip number)) k 0 → j ≡ k
-  table-distinct = sheet-distinct (sheetOf chip) (sound-sheet chip) number has
+  table-distinct = sheet-distinct (sheetOf chip) (sound-sheet chip) number
 
-  -- a chip's tables differ only in where they begin
-  pub table-at-base : tableOf chip number ≡ tableFrom chip (baseOf chip number)
-  table-at-base = sheet-at-base (sheetOf chip) (sound-sheet chip) number has
+  -- a chip's tables are laid out alike
+  pub table-laid : layout (tableOf chip number) ≡ layout (tableOf chip 1)
+  table-laid = sheet-laid (sheetOf chip) (sound-sheet chip) number has
 
--- what a place tells of the table
-at-place : (has : Bool) (n base : ℕ) → cond has (At n) Nowhere ≡ At base → (has ≡ true) × (base ≡ n)
-at-place true n base e = (refl, cc)
-at-place false n base e = let z : _≡_ {A = ℕ} 0 1 = cc in absurd (omega arith)
+-- what the first table's layout says of every number that the chip has
+pub laid-first : (chip : Chip) (number : ℕ) → 1 ≤ number → number ≤ length (tablesOf chip) → Laid (layout (tableOf chip 1)) ≡ laidIn (tablesOf chip) number
+laid-first chip number h l =
+    let has : So (hasTable chip number) = rw (le-leb 1 number h, le-leb number (length (tablesOf chip)) l) in
+    ap Laid (sym (table-laid chip number has))
+    ∙ ap (λ (b : Bool). cond b (Laid (layout (tableOf chip number))) Nothing) (sym has)
 
-no-place : (has : Bool) (n : ℕ) → cond has (At n) Nowhere ≡ Nowhere → has ≡ false
-no-place true n e = let z : _≡_ {A = ℕ} 0 1 = cc in absurd (omega arith)
-no-place false n e = refl
+-- what an answer tells of the table
+fan-laid : (has : Bool) (a b : Layout) → cond has (Laid a) Nothing ≡ Laid b → (has ≡ true) × (b ≡ a)
+fan-laid true a b e = (refl, cc)
+fan-laid false a b e = let z : _≡_ {A = ℕ} 0 1 = cc in absurd (omega arith)
 
-pub place-found : {chip : Chip} {number : ℕ} {place : Place} (base : ℕ) → Places chip number place → place ≡ At base
-    → (hasTable chip number ≡ true) × (base ≡ baseOf chip number)
-place-found {chip} {number} base p e = at-place (hasTable chip number) (baseOf chip number) base (sym (p .answer) ∙ e)
+no-fan : (has : Bool) (a : Layout) → cond has (Laid a) Nothing ≡ Nothing → has ≡ false
+no-fan true a e = let z : _≡_ {A = ℕ} 0 1 = cc in absurd (omega arith)
+no-fan false a e = refl
 
-pub place-missed : {chip : Chip} {number : ℕ} {place : Place} → Places chip number place → place ≡ Nowhere → hasTable chip number ≡ false
-place-missed {chip} {number} p e = no-place (hasTable chip number) (baseOf chip number) (sym (p .answer) ∙ e)
+pub table-found : {chip : Chip} {number : ℕ} {fan : Fan} (facts : Layout) → Lays chip number fan → fan ≡ Laid facts
+    → (hasTable chip number ≡ true) × (facts ≡ layout (tableOf chip number))
+table-found {chip} {number} facts p e = fan-laid (hasTable chip number) (layout (tableOf chip number)) facts (sym (p .answer) ∙ e)
+
+pub table-missed : {chip : Chip} {number : ℕ} {fan : Fan} → Lays chip number fan → fan ≡ Nothing → hasTable chip number ≡ false
+table-missed {chip} {number} p e = no-fan (hasTable chip number) (layout (tableOf chip number)) (sym (p .answer) ∙ e)

@@ -6,10 +6,12 @@ use mathlib.Core.Bool.{Bool, true, false, cond}
 use Rattle.cards.specs.declared.types.Chip.{Chip}
 use Rattle.cards.specs.declared.types.Named.{Named}
 use Rattle.cards.specs.declared.types.Named.the-variants.{Known, Unknown}
-use Rattle.cards.specs.declared.types.Place.{Place}
-use Rattle.cards.specs.declared.types.Place.the-variants.{At, Nowhere}
-use Rattle.cards.specs.Cards.{chipOf, whenKnown, unknown, hasTable, baseOf, tellsNamed, tellsPlace}
-use Rattle.cards.specs.Contracts.{Names, Places}
+use Rattle.cards.specs.declared.types.Fan.{Fan}
+use Rattle.cards.specs.declared.types.Fan.the-variants.{Laid, Nothing}
+use Rattle.cards.specs.declared.types.Layout.{Layout}
+use Rattle.cards.specs.Sheets.{missing, layout}
+use Rattle.cards.specs.Cards.{chipOf, whenKnown, unknown, hasTable, tableOf, tellsNamed, tellsFan}
+use Rattle.cards.specs.Contracts.{Names, Lays}
 use Rattle.cards.proofs.Numbers.{chip-number}
 
 -- 0 and the number itself where it names a chip, else 3 and 0
@@ -20,10 +22,11 @@ names-told {number} p = ap tellsNamed (p .answer) ∙ by-name (chipOf number) re
     by-name (Known chip) e = ap (λ (n : ℕ). (0, n)) (sym (chip-number number chip e))
     by-name Unknown e = refl
 
--- 0 and the address where the chip has the table, else 4 and 0
-pub places-told : {chip : Chip} {number : ℕ} {r : Place} → Places chip number r → tellsPlace r ≡ cond (hasTable chip number) (0, baseOf chip number) (4, 0)
-places-told {chip} {number} p = ap tellsPlace (p .answer) ∙ by-table (hasTable chip number) (baseOf chip number)
+-- 0 and the layout of the table where the chip has it, else 4 and that of none
+pub lays-told : {chip : Chip} {number : ℕ} {r : Fan} → Lays chip number r
+    → tellsFan r ≡ cond (hasTable chip number) (0, layout (tableOf chip number)) (4, layout missing)
+lays-told {chip} {number} p = ap tellsFan (p .answer) ∙ by-table (hasTable chip number) (layout (tableOf chip number))
   where
-    by-table : (has : Bool) (base : ℕ) → tellsPlace (cond has (At base) Nowhere) ≡ cond has (0, base) (4, 0)
-    by-table true base = refl
-    by-table false base = refl
+    by-table : (has : Bool) (facts : Layout) → tellsFan (cond has (Laid facts) Nothing) ≡ cond has (0, facts) (4, layout missing)
+    by-table true facts = refl
+    by-table false facts = refl

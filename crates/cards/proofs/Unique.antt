@@ -4,11 +4,11 @@ use Prim.Native.Nat.{ℕ}
 use mathlib.Core.Path.{_≡_, sym, _∙_}
 use Rattle.cards.specs.declared.types.Chip.{Chip}
 use Rattle.cards.specs.declared.types.Named.{Named}
-use Rattle.cards.specs.declared.types.Place.{Place}
+use Rattle.cards.specs.declared.types.Fan.{Fan}
 use Rattle.cards.specs.declared.types.Masks.{Masks}
 use Rattle.cards.specs.declared.types.Required.{Required}
 use Rattle.cards.specs.declared.types.Sizes.{Sizes}
-use Rattle.cards.specs.Contracts.{Names, Finds, PowersOn, TellsSizes, Requires, Places}
+use Rattle.cards.specs.Contracts.{Names, Finds, PowersOn, TellsSizes, Requires, Lays, Stands}
 
 pub names-unique : {number : ℕ} {r s : Named} → Names number r → Names number s → r ≡ s
 names-unique p q = p .answer ∙ sym (q .answer)
@@ -25,5 +25,8 @@ measures-unique p q = p .answer ∙ sym (q .answer)
 pub requires-unique : {chip : Chip} {k : ℕ} {r s : Required} → Requires chip k r → Requires chip k s → r ≡ s
 requires-unique p q = p .answer ∙ sym (q .answer)
 
-pub places-unique : {chip : Chip} {number : ℕ} {r s : Place} → Places chip number r → Places chip number s → r ≡ s
-places-unique p q = p .answer ∙ sym (q .answer)
+pub lays-unique : {chip : Chip} {number : ℕ} {r s : Fan} → Lays chip number r → Lays chip number s → r ≡ s
+lays-unique p q = p .answer ∙ sym (q .answer)
+
+pub stands-unique : {chip : Chip} {number k r s : ℕ} → Stands chip number k r → Stands chip number k s → r ≡ s
+stands-unique p q = p .answer ∙ sym (q .answer)

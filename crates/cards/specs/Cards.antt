@@ -4,15 +4,16 @@ use Prim.Native.Nat.{ℕ}
 use mathlib.Core.Bool.{Bool, true, false, cond, not}
 use mathlib.Core.List.{List, [], _∷_}
 use lib.Dec.{eqb}
-use lib.ListN.{length, getD}
+use lib.ListN.{length}
 use Rattle.cards.specs.declared.types.Chip.{Chip}
 use Rattle.cards.specs.declared.types.Chip.the-variants.{Nct7802y, F75373s, Nct80}
 use Rattle.cards.specs.declared.types.Named.{Named}
 use Rattle.cards.specs.declared.types.Named.the-variants.{Known, Unknown}
-use Rattle.cards.specs.declared.types.Place.{Place}
-use Rattle.cards.specs.declared.types.Place.the-variants.{At, Nowhere}
-use Rattle.cards.specs.Rows.{Line, Row, Table, inARow, rowIn}
-use Rattle.cards.specs.Sheets.{Sheet, powerOnIn, hasTableIn, tableIn}
+use Rattle.cards.specs.declared.types.Fan.{Fan}
+use Rattle.cards.specs.declared.types.Fan.the-variants.{Laid, Nothing}
+use Rattle.cards.specs.declared.types.Layout.{Layout}
+use Rattle.cards.specs.Rows.{Line, Row, Table, rowIn}
+use Rattle.cards.specs.Sheets.{Sheet, powerOnIn, missing, hasTableIn, tableIn, layout}
 use Rattle.cards.specs.Nct7802y as nct7802y
 use Rattle.cards.specs.F75373s as f75373s
 use Rattle.cards.specs.Nct80 as nct80
@@ -70,22 +71,14 @@ hasTable chip number = hasTableIn (tablesOf chip) number
 abbrev pub tableOf : Chip → ℕ → Table
 tableOf chip number = tableIn (tablesOf chip) number
 
--- the table of a chip that begins at a base: a chip's tables are as long as its first, and each stands in a row
-abbrev pub tableFrom : Chip → ℕ → Table
-tableFrom chip base = inARow base (length (tableOf chip 1 .settings)) (length (tableOf chip 1 .speeds))
-
--- where a chip's table begins: at its first setting
-abbrev pub baseOf : Chip → ℕ → ℕ
-baseOf chip number = getD (tableOf chip number .settings) 0 0
-
 -- refusal 4: "the chip has no such fan table"
 abbrev pub noTable : ℕ → ℕ → Bool
 noTable chip number = not (whenKnown (chipOf chip) (λ c. hasTable c number) false)
 
--- the same of a place: 0 and where the table begins, or 4
-abbrev pub tellsPlace : Place → ℕ × ℕ
-tellsPlace (At base) = (0, base)
-tellsPlace Nowhere = (4, 0)
+-- the same of a fan table: 0 and its layout, or 4 and that of none
+abbrev pub tellsFan : Fan → ℕ × Layout
+tellsFan (Laid facts) = (0, facts)
+tellsFan Nothing = (4, layout missing)
 
 -- how many bytes a chip's image has
 abbrev pub sizeOf : Chip → ℕ

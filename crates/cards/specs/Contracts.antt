@@ -1,18 +1,16 @@
 -- What the calls of `cards` promise.
 -- Assumes nothing.
 use Prim.Native.Nat.{ℕ}
-use mathlib.Core.Bool.{cond}
 use mathlib.Core.Path.{_≡_}
 use Rattle.cards.specs.declared.types.Chip.{Chip}
 use Rattle.cards.specs.declared.types.Named.{Named}
 use Rattle.cards.specs.declared.types.Masks.{Masks}
 use Rattle.cards.specs.declared.types.Required.{Required}
 use Rattle.cards.specs.declared.types.Sizes.{Sizes}
-use Rattle.cards.specs.declared.types.Place.{Place}
-use Rattle.cards.specs.declared.types.Place.the-variants.{At, Nowhere}
+use Rattle.cards.specs.declared.types.Fan.{Fan}
 use Rattle.cards.specs.Rows.{masksIn, requiredIn}
-use Rattle.cards.specs.Sheets.{sizesIn}
-use Rattle.cards.specs.Cards.{sheetOf, chipOf, rowOf, hasTable, baseOf}
+use Rattle.cards.specs.Sheets.{sizesIn, laidIn, registerIn}
+use Rattle.cards.specs.Cards.{sheetOf, chipOf, rowOf, tablesOf}
 
 -- what `cards::chip_of` promises
 pub record Names (number : ℕ) (named : Named) : Type 0 where
@@ -34,6 +32,10 @@ pub record TellsSizes (chip : Chip) (sizes : Sizes) : Type 0 where
 pub record Requires (chip : Chip) (k : ℕ) (required : Required) : Type 0 where
   pub answer : required ≡ requiredIn (sheetOf chip .identity) k
 
--- what `cards::table_at` promises
-pub record Places (chip : Chip) (number : ℕ) (place : Place) : Type 0 where
-  pub answer : place ≡ cond (hasTable chip number) (At (baseOf chip number)) Nowhere
+-- what `cards::table_of` promises
+pub record Lays (chip : Chip) (number : ℕ) (fan : Fan) : Type 0 where
+  pub answer : fan ≡ laidIn (tablesOf chip) number
+
+-- what `cards::register_of` promises
+pub record Stands (chip : Chip) (number k position : ℕ) : Type 0 where
+  pub answer : position ≡ registerIn (tablesOf chip) number k

@@ -1,12 +1,13 @@
 -- "Register cards": what a card's lines say of each of the 256 addresses.
 -- Assumes nothing.
-use Prim.Native.Nat.{ℕ, zero, suc, _+_}
+use Prim.Native.Nat.{ℕ, zero, suc}
 use mathlib.Core.Bool.{cond}
 use mathlib.Core.List.{List, [], _∷_, _++_}
 use lib.Dec.{eqb}
 use lib.ListN.{getD}
 use Rattle.cards.specs.declared.types.Masks.{Masks}
 use Rattle.cards.specs.declared.types.Required.{Required}
+use Rattle.cards.specs.declared.types.Shape.{Shape}
 
 -- a register of the sheet: its address, its writable bits, its bits that clear on one, its power-on value
 abbrev pub Line : Type 0
@@ -41,10 +42,12 @@ row writable clears power = record { writable = writable; clears = clears; power
 abbrev pub masksIn : Row → Masks
 masksIn r = record { writable = r .writable; clears = r .clears }
 
--- a fan table: where its settings stand (temperatures, and critical where there is one), and where its speeds stand, in register order
+-- a fan table: where its settings stand (temperatures, and critical where there is one) and where its speeds stand, in register order, and what its
+-- curve is
 pub record Table : Type 0 where
   pub settings : List ℕ
   pub speeds : List ℕ
+  pub shape : Shape
 
 -- all registers of a table, in register order
 abbrev pub positions : Table → List ℕ
@@ -63,10 +66,6 @@ eachFrom f first (suc n) = f first ∷ eachFrom f (suc first) n
 -- n addresses in a row
 abbrev pub from : ℕ → ℕ → List ℕ
 from first n = eachFrom (λ address. address) first n
-
--- a table whose registers stand in a row
-abbrev pub inARow : ℕ → ℕ → ℕ → Table
-inARow base settings speeds = record { settings = from base settings; speeds = from (base + settings) speeds }
 
 -- a number for each of n positions, as "each of the 256 addresses"
 unfoldable pub column : ℕ → (ℕ → ℕ) → List ℕ

@@ -1,22 +1,24 @@
-// The F75373S: its register card, a column to a file, its identity and where its fan tables begin.
+// The F75373S: its register card, a column to a file, its identity and its fan tables.
 mod clears;
 mod power_on;
 mod writable;
 
+use crate::types::Fan;
+use crate::types::Layout;
 use crate::types::Masks;
 use crate::types::NO_MASKS;
 use crate::types::NOTHING;
-use crate::types::Place;
 use crate::types::Required;
+use crate::types::Shape;
 use crate::types::Sizes;
+use crate::types::nth;
 use clears::CLEARS;
 use power_on::POWER_ON;
 use writable::WRITABLE;
 ghost use mathlib.Core.Path.{_≡_};
-ghost use Rattle.cards.specs.Contracts.{Places};
-ghost use Rattle.cards.specs.declared.types.Chip.the-variants.{F75373s};
-ghost use Rattle.cards.specs.F75373s.{card, identity};
+ghost use Rattle.cards.specs.F75373s.{card, identity, tables};
 ghost use Rattle.cards.specs.Rows.{masksIn, requiredIn, rowIn};
+ghost use Rattle.cards.specs.Sheets.{laidIn, registerIn};
 
 const SIZE: usize = 256;
 
@@ -81,12 +83,60 @@ pub(crate) fn required(k: usize) -> Required
     IDENTITY[k]
 }
 
-pub(crate) fn table_at(number: u8) -> Place
-    ensures { λ r. ⌜ Places F75373s number r ⌝ }
+// The registers of the fan tables: B1 to B4, C1 to C5, high byte first.
+const TABLE_1: [usize; 14] = [
+    0xA0,
+    0xA1,
+    0xA2,
+    0xA3,
+    0xA4,
+    0xA5,
+    0xA6,
+    0xA7,
+    0xA8,
+    0xA9,
+    0xAA,
+    0xAB,
+    0xAC,
+    0xAD,
+];
+
+const TABLE_2: [usize; 14] = [
+    0xB0,
+    0xB1,
+    0xB2,
+    0xB3,
+    0xB4,
+    0xB5,
+    0xB6,
+    0xB7,
+    0xB8,
+    0xB9,
+    0xBA,
+    0xBB,
+    0xBC,
+    0xBD,
+];
+
+pub(crate) fn register(number: u8, k: usize) -> usize
+    ensures { λ r. ⌜ r ≡ registerIn tables number k ⌝ }
 {
     match number {
-        1 => Place::At(0xA0),
-        2 => Place::At(0xB0),
-        _ => Place::Nowhere,
+        1 => nth(&TABLE_1, k),
+        2 => nth(&TABLE_2, k),
+        _ => 0,
+    }
+}
+
+pub(crate) fn table(number: u8) -> Fan
+    ensures { λ r. ⌜ r ≡ laidIn tables number ⌝ }
+{
+    match number {
+        1..=2 => Fan::Laid(Layout {
+            settings: 4,
+            speeds: 10,
+            shape: Shape::Steps,
+        }),
+        _ => Fan::Nothing,
     }
 }

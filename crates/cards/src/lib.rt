@@ -5,13 +5,15 @@ mod nct80;
 mod types;
 
 pub use types::Chip;
+pub use types::Fan;
+pub use types::Layout;
 pub use types::Masks;
 use types::NOTHING;
 pub use types::Named;
-pub use types::Place;
 pub use types::Required;
+pub use types::Shape;
 pub use types::Sizes;
-ghost use Rattle.cards.specs.Contracts.{Names, Finds, PowersOn, TellsSizes, Requires, Places};
+ghost use Rattle.cards.specs.Contracts.{Names, Finds, PowersOn, TellsSizes, Requires, Lays, Stands};
 
 // The chip of a chip number, and none for every other number.
 pub fn chip_of(number: u8) -> Named
@@ -69,13 +71,24 @@ pub fn required_of(chip: Chip, k: usize) -> Required
     }
 }
 
-// Where the fan table of a number begins.
-pub fn table_at(chip: Chip, number: u8) -> Place
-    ensures { λ r. ⌜ Places chip number r ⌝ }
+// The fan table of a number.
+pub fn table_of(chip: Chip, number: u8) -> Fan
+    ensures { λ r. ⌜ Lays chip number r ⌝ }
 {
     match chip {
-        Chip::Nct7802y => nct7802y::table_at(number),
-        Chip::F75373s => f75373s::table_at(number),
-        Chip::Nct80 => Place::Nowhere,
+        Chip::Nct7802y => nct7802y::table(number),
+        Chip::F75373s => f75373s::table(number),
+        Chip::Nct80 => Fan::Nothing,
+    }
+}
+
+// The k-th register of a fan table, settings first, and 0 where there is none.
+pub fn register_of(chip: Chip, number: u8, k: usize) -> usize
+    ensures { λ r. ⌜ Stands chip number k r ⌝ }
+{
+    match chip {
+        Chip::Nct7802y => nct7802y::register(number, k),
+        Chip::F75373s => f75373s::register(number, k),
+        Chip::Nct80 => 0,
     }
 }

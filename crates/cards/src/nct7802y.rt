@@ -1,22 +1,24 @@
-// The NCT7802Y: its register card, a column to a file, its identity and where its fan tables begin.
+// The NCT7802Y: its register card, a column to a file, its identity and its fan tables.
 mod clears;
 mod power_on;
 mod writable;
 
+use crate::types::Fan;
+use crate::types::Layout;
 use crate::types::Masks;
 use crate::types::NO_MASKS;
 use crate::types::NOTHING;
-use crate::types::Place;
 use crate::types::Required;
+use crate::types::Shape;
 use crate::types::Sizes;
+use crate::types::nth;
 use clears::CLEARS;
 use power_on::POWER_ON;
 use writable::WRITABLE;
 ghost use mathlib.Core.Path.{_≡_};
-ghost use Rattle.cards.specs.Contracts.{Places};
-ghost use Rattle.cards.specs.declared.types.Chip.the-variants.{Nct7802y};
-ghost use Rattle.cards.specs.Nct7802y.{card, identity};
+ghost use Rattle.cards.specs.Nct7802y.{card, identity, tables};
 ghost use Rattle.cards.specs.Rows.{masksIn, requiredIn, rowIn};
+ghost use Rattle.cards.specs.Sheets.{laidIn, registerIn};
 
 const SIZE: usize = 256;
 
@@ -86,13 +88,33 @@ pub(crate) fn required(k: usize) -> Required
     IDENTITY[k]
 }
 
-pub(crate) fn table_at(number: u8) -> Place
-    ensures { λ r. ⌜ Places Nct7802y number r ⌝ }
+// The registers of the fan tables: T1 to T4, critical, FL1 to FL4.
+const TABLE_1: [usize; 9] = [0x80, 0x81, 0x82, 0x83, 0x84, 0x85, 0x86, 0x87, 0x88];
+
+const TABLE_2: [usize; 9] = [0x90, 0x91, 0x92, 0x93, 0x94, 0x95, 0x96, 0x97, 0x98];
+
+const TABLE_3: [usize; 9] = [0xA0, 0xA1, 0xA2, 0xA3, 0xA4, 0xA5, 0xA6, 0xA7, 0xA8];
+
+pub(crate) fn register(number: u8, k: usize) -> usize
+    ensures { λ r. ⌜ r ≡ registerIn tables number k ⌝ }
 {
     match number {
-        1 => Place::At(0x80),
-        2 => Place::At(0x90),
-        3 => Place::At(0xA0),
-        _ => Place::Nowhere,
+        1 => nth(&TABLE_1, k),
+        2 => nth(&TABLE_2, k),
+        3 => nth(&TABLE_3, k),
+        _ => 0,
+    }
+}
+
+pub(crate) fn table(number: u8) -> Fan
+    ensures { λ r. ⌜ r ≡ laidIn tables number ⌝ }
+{
+    match number {
+        1..=3 => Fan::Laid(Layout {
+            settings: 5,
+            speeds: 4,
+            shape: Shape::Slope(255),
+        }),
+        _ => Fan::Nothing,
     }
 }

@@ -1,4 +1,7 @@
 // What the chips' pages and their callers speak of.
+ghost use mathlib.Core.Path.{_≡_};
+ghost use lib.ListN.{getD};
+
 pub enum Chip {
     Nct7802y,
     F75373s,
@@ -30,10 +33,30 @@ pub struct Required {
     pub value: u8,
 }
 
-// Where a fan table begins, if there is one.
-pub enum Place {
-    At(u8),
-    Nowhere,
+// What a fan table's curve is: a slope between points, with its full duty, or steps of counts.
+pub enum Shape {
+    Slope(u8),
+    Steps,
+}
+
+// How many registers of each kind a fan table has, and what its curve is.
+pub struct Layout {
+    pub settings: usize,
+    pub speeds: usize,
+    pub shape: Shape,
+}
+
+// The fan table of a number, if there is one.
+pub enum Fan {
+    Laid(Layout),
+    Nothing,
+}
+
+// The entry at a place, and 0 behind the last.
+pub(crate) fn nth(entries: &[usize], k: usize) -> usize
+    ensures { λ r. ⌜ r ≡ getD (now (entries .entry)) k 0 ⌝ }
+{
+    if k < entries.len() { entries[k] } else { 0 }
 }
 
 // Behind the end of a card.

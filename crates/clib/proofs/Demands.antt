@@ -14,12 +14,13 @@ use Rattle.refusal.proofs.Passed.{all-passed}
 use Rattle.cards.specs.declared.types.Chip.{Chip}
 use Rattle.cards.specs.declared.types.Named.{Named}
 use Rattle.cards.specs.declared.types.Named.the-variants.{Known}
-use Rattle.cards.specs.declared.types.Place.{Place}
+use Rattle.cards.specs.declared.types.Fan.{Fan}
+use Rattle.cards.specs.declared.types.Layout.{Layout}
 use Rattle.cards.specs.Rows.{masksIn, requiredIn}
-use Rattle.cards.specs.Sheets.{sizesIn}
-use Rattle.cards.specs.Cards.{sheetOf, chipOf, unknown, hasTable, rowOf, baseOf, tellsNamed, tellsPlace}
-use Rattle.cards.specs.Contracts.{Names, Places}
-use Rattle.cards.proofs.Told.{names-told, places-told}
+use Rattle.cards.specs.Sheets.{sizesIn, missing, layout, registerIn}
+use Rattle.cards.specs.Cards.{sheetOf, chipOf, unknown, tablesOf, hasTable, tableOf, rowOf, tellsNamed, tellsFan}
+use Rattle.cards.specs.Contracts.{Names, Lays}
+use Rattle.cards.proofs.Told.{names-told, lays-told}
 use Rattle.cards.specs.Identity.{confirmed}
 use Rattle.images.specs.Contracts.{imageChecks}
 use Rattle.images.proofs.Admission.{admits-told}
@@ -45,13 +46,13 @@ named-answered number r p = told-answered 0 number ((unknown number, 3) ∷ []) 
     by-test true = refl
     by-test false = refl
 
-placed-answered : (chip : Chip) (number : ℕ) (r : Place) → Places chip number r → Answered ((not (hasTable chip number), 4) ∷ []) 0 (tellsPlace r)
-placed-answered chip number r p =
-    told-answered 0 (baseOf chip number) ((not (hasTable chip number), 4) ∷ []) (places-told p ∙ by-test (hasTable chip number))
+laid-answered : (chip : Chip) (number : ℕ) (r : Fan) → Lays chip number r → Answered ((not (hasTable chip number), 4) ∷ []) (layout missing) (tellsFan r)
+laid-answered chip number r p =
+    told-answered (layout missing) (layout (tableOf chip number)) ((not (hasTable chip number), 4) ∷ []) (lays-told p ∙ by-test (hasTable chip number) (layout (tableOf chip number)))
   where
-    by-test : (b : Bool) → cond b (0, baseOf chip number) (4, 0) ≡ told ((not b, 4) ∷ []) (baseOf chip number)
-    by-test true = refl
-    by-test false = refl
+    by-test : (b : Bool) (facts : Layout) → cond b (0, facts) (4, layout missing) ≡ toldOr (layout missing) ((not b, 4) ∷ []) facts
+    by-test true facts = refl
+    by-test false facts = refl
 
 -- a refused sample leaves the watch as it was
 sample-answered : (w : Watch) (steps high hysteresis : ℤ) (r : Sampled) → watch.Samples w steps high hysteresis r → Answered (watch.sampleChecks steps) w (watch.tellsSampled r)
@@ -73,7 +74,8 @@ demand-1 =
       power-on-of = λ chip position. record { answer = rowOf chip position .power; kept = record { answer = refl } };
       sizes-of = λ chip. record { answer = sizesIn (sheetOf chip); kept = record { answer = refl } };
       required-of = λ chip k. record { answer = requiredIn (sheetOf chip .identity) k; kept = record { answer = refl } };
-      table-at = placed-answered;
+      table-of = laid-answered;
+      register-of = λ chip number k. record { answer = registerIn (tablesOf chip) number k; kept = record { answer = refl } };
       admit = λ chip size r p. told-answered 0 chip _ (admits-told p);
       write = λ chip old address byte r new p. (verdict-answered r _ (p .answer), left-kept (imageChecks chip old) _ (p .answer) (p .bytes));
       read = λ chip image address r p. told-answered 0 _ _ (p .answer);

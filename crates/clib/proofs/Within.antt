@@ -1,4 +1,4 @@
--- What a call answers beside its refusal number is small: no record has more than 18 bytes, no script more than 25 writes, no text more than 40,979 bytes.
+-- What a call answers beside its refusal number is small: no record has more than 18 bytes, no script more than 28 writes, no text more than 40,979 bytes.
 -- Assumes nothing.
 use Prim.Native.Nat.{ℕ, zero, suc, _+_, _-_, _≤_, _<_, _^_, min}
 use native.Mathlib.Nat.{min-le-right}
@@ -12,13 +12,10 @@ use Rattle.refusal.specs.declared.Count.{Count}
 use Rattle.refusal.specs.Answers.{tellsCount}
 use Rattle.refusal.specs.Checks.{Check, first, told}
 use Rattle.cards.specs.declared.types.Chip.{Chip}
-use Rattle.cards.specs.declared.types.Chip.the-variants.{Nct7802y, F75373s, Nct80}
 use Rattle.cards.specs.declared.types.Named.{Named}
 use Rattle.cards.specs.declared.types.Named.the-variants.{Known, Unknown}
-use Rattle.cards.specs.Rows.{Table}
-use Rattle.cards.specs.Nct7802y as nct7802y
-use Rattle.cards.specs.F75373s as f75373s
-use Rattle.cards.specs.Cards.{sheetOf, chipOf, whenKnown, tableOf}
+use Rattle.cards.specs.Cards.{chipOf, whenKnown, tableOf}
+use Rattle.cards.proofs.Tables.{table-short}
 use Rattle.curves.specs.declared.Plan.{Plan}
 use Rattle.curves.specs.Curves.{points}
 use Rattle.curves.specs.Orders.{fulls}
@@ -48,25 +45,7 @@ points-short [] bytes = omega arith
 points-short (r ∷ rs) [] = omega arith
 points-short (r ∷ rs) (b ∷ bs) = omega (arith, points-short rs bs)
 
--- each of some tables has at most five settings and ten speeds, and so has the one of any number
-abbrev Short : List Table → Type 0
-Short [] = Unit {0}
-Short (t ∷ ts) = ((length (t .settings) ≤ 5) × (length (t .speeds) ≤ 10)) × Short ts
-
-nth-short : (ts : List Table) (k : ℕ) → Short ts
-    → (length (getD ts k (record { settings = []; speeds = [] }) .settings) ≤ 5) × (length (getD ts k (record { settings = []; speeds = [] }) .speeds) ≤ 10)
-nth-short [] k h = (omega arith, omega arith)
-nth-short (t ∷ ts) zero h = h .0
-nth-short (t ∷ ts) (suc k) h = nth-short ts k (h .1)
-
-table-short : (chip : Chip) (number : ℕ) → (length (tableOf chip number .settings) ≤ 5) × (length (tableOf chip number .speeds) ≤ 10)
-unfolding sheetOf
-table-short Nct7802y number =
-    nth-short nct7802y.tables (number - 1) ((omega arith, omega arith), ((omega arith, omega arith), ((omega arith, omega arith), tt)))
-table-short F75373s number = nth-short f75373s.tables (number - 1) ((omega arith, omega arith), ((omega arith, omega arith), tt))
-table-short Nct80 number = nth-short [] (number - 1) tt
-
-script-short : (chip : Chip) (plan : Plan) → length (scriptOf chip plan) ≤ 25
+script-short : (chip : Chip) (plan : Plan) → length (scriptOf chip plan) ≤ 28
 unfolding scriptOf
 script-short chip plan =
     let settings = tableOf chip (plan .table) .settings in
@@ -79,14 +58,14 @@ script-short chip plan =
       points-short speeds (fulls (fullOf chip) speeds),
       points-short settings (curve .settings),
       points-short speeds (curve .speeds),
-      table-short chip (plan .table) .0,
-      table-short chip (plan .table) .1,
+      table-short chip (plan .table),
+      length-append settings speeds,
     )
 
-script-within : (plan : Plan) → length (scriptFor plan) ≤ 25
+script-within : (plan : Plan) → length (scriptFor plan) ≤ 28
 script-within plan = by-name (chipOf (plan .chip))
   where
-    by-name : (named : Named) → length (whenKnown named (λ c. scriptOf c plan) []) ≤ 25
+    by-name : (named : Named) → length (whenKnown named (λ c. scriptOf c plan) []) ≤ 28
     by-name (Known chip) = script-short chip plan
     by-name Unknown = omega arith
 

@@ -17,9 +17,10 @@ use Rattle.refusal.specs.Checks.{Check, first}
 use Rattle.cards.specs.declared.types.Chip.{Chip}
 use Rattle.cards.specs.declared.types.Named.{Named}
 use Rattle.cards.specs.declared.types.Named.the-variants.{Known}
-use Rattle.cards.specs.declared.types.Place.{Place}
-use Rattle.cards.specs.Cards.{chipOf, unknown, hasTable, tellsNamed, tellsPlace}
-use Rattle.cards.specs.Contracts.{Names, Finds, PowersOn, TellsSizes, Requires, Places}
+use Rattle.cards.specs.declared.types.Fan.{Fan}
+use Rattle.cards.specs.Sheets.{missing, layout}
+use Rattle.cards.specs.Cards.{chipOf, unknown, hasTable, tellsNamed, tellsFan}
+use Rattle.cards.specs.Contracts.{Names, Finds, PowersOn, TellsSizes, Requires, Lays, Stands}
 use Rattle.cards.specs.Identity.{confirmed}
 use Rattle.images.specs.declared.Admitted.{Admitted}
 use Rattle.images.specs.declared.ByteRead.{ByteRead}
@@ -87,7 +88,8 @@ pub record Demand1 : Type 0 where
   pub power-on-of : (chip : Chip) (position : ℕ) → Given (λ byte. PowersOn chip position byte)
   pub sizes-of : (chip : Chip) → Given (λ sizes. TellsSizes chip sizes)
   pub required-of : (chip : Chip) (k : ℕ) → Given (λ required. Requires chip k required)
-  pub table-at : (chip : Chip) (number : ℕ) (r : Place) → Places chip number r → Answered ((not (hasTable chip number), 4) ∷ []) 0 (tellsPlace r)
+  pub table-of : (chip : Chip) (number : ℕ) (r : Fan) → Lays chip number r → Answered ((not (hasTable chip number), 4) ∷ []) (layout missing) (tellsFan r)
+  pub register-of : (chip : Chip) (number k : ℕ) → Given (λ position. Stands chip number k position)
   -- register images
   pub admit : (chip size : ℕ) (r : Admitted) → images.Admits chip size r → Answered (images.sizeChecks chip size) 0 (images.tellsAdmitted r)
   pub write : (chip : ℕ) (old : List ℕ) (address byte : ℕ) (r : Outcome) (new : List ℕ) → images.WritesByte chip old address byte r new

@@ -1,53 +1,72 @@
--- A table's bytes are those of the body at its base, so the plan read from there asks what the registers ask.
+-- The bytes of a table's registers, in register order, are a body; the plan read from it asks what the registers ask.
 -- Assumes nothing.
-use Prim.Native.Nat.{ℕ, zero, suc, _+_, _-_}
-use native.Mathlib.Nat.{add-zero, add-suc}
+use Prim.Native.Nat.{ℕ, zero, suc, _+_, _-_, _≤_}
 use native.Mathlib.Omega.{arith}
 use mathlib.Core.Path.{_≡_, refl, sym, ap, ap₂, _∙_}
 use mathlib.Core.Bool.{true}
-use mathlib.Core.List.{List, _∷_}
-use lib.ListN.{length, take, drop, length-drop}
-use lib.Seq.{take-all, getD-drop}
-use Rattle.cards.specs.Rows.{Table, from}
-use Rattle.cards.specs.Cards.{sheetOf, hasTable, tableOf, tableFrom, baseOf}
+use mathlib.Core.List.{List, _∷_, map}
+use lib.ListN.{length, getD, take, drop, length-append, length-drop}
+use lib.Seq.{take-at, drop-at, take-all}
+use Rattle.cards.specs.Rows.{Table, positions, from, column}
+use Rattle.cards.specs.Sheets.{registerIn, layout}
+use Rattle.cards.specs.Cards.{sheetOf, tablesOf, hasTable, tableOf}
 use Rattle.cards.specs.declared.types.Chip.{Chip}
 use Rattle.cards.specs.declared.types.Chip.the-variants.{Nct7802y, F75373s, Nct80}
-use Rattle.cards.proofs.Tables.{table-at-base}
+use Rattle.cards.specs.declared.types.Layout.{Layout}
+use Rattle.cards.proofs.Columns.{column-at}
+use Rattle.cards.proofs.Tables.{table-laid}
 use Rattle.curves.specs.Curves.{stepRule, words}
 use Rattle.curves.specs.Planned.{Curve, planned, valuesAt, asks}
 use Rattle.bodies.specs.Bodies.{decoded}
 use Rattle.plans.specs.Plans.{held}
-use Rattle.curves.proofs.Registers.{planned-count}
+use Rattle.curves.proofs.Registers.{in-a-row, planned-count}
 
--- what stands behind a base
-pub shifted : (l : List ℕ) (base k n : ℕ) → valuesAt (drop base l) (from k n) ≡ valuesAt l (from (base + k) n)
-shifted l base k zero = refl
-shifted l base k (suc n) =
-    ap₂ (λ (b : ℕ) (m : List ℕ). b ∷ m) (getD-drop base l k 0)
-    (shifted l base (suc k) n ∙ ap (λ (first : ℕ). valuesAt l (from first n)) (add-suc base k))
+-- the bytes at n registers in a row
+in-column : (image ps : List ℕ) (first n : ℕ) → first + n ≤ 14
+    → valuesAt (column 14 (λ k. getD image (getD ps k 0) 0)) (from first n) ≡ valuesAt image (valuesAt ps (from first n))
+in-column image ps first zero h = refl
+in-column image ps first (suc n) h =
+    ap₂ (λ (b : ℕ) (m : List ℕ). b ∷ m) (column-at 14 (λ k. getD image (getD ps k 0) 0) first (omega arith)) (in-column image ps (suc first) n (omega arith))
 
--- the body that begins at a base asks what the registers of the table there ask
-base-asks : (chip : Chip) (table base : ℕ) (image : List ℕ) (t : ℕ)
-    → asks chip (planned chip (decoded chip table (drop base image))) t ≡ asks chip (held (tableFrom chip base) image) t
+module _ (image : List ℕ) (t : Table) where
+  abbrev bytes : List ℕ
+  bytes = column 14 (λ k. getD image (getD (positions t) k 0) 0)
+
+  -- the settings stand in front
+  front : (n : ℕ) → n ≤ 14 → length (t .settings) ≡ n → valuesAt bytes (from 0 n) ≡ valuesAt image (t .settings)
+  front n h e =
+      in-column image (positions t) 0 n (omega arith)
+      ∙ ap (valuesAt image) (in-a-row (positions t) 0 n (omega (arith, length-append (t .settings) (t .speeds))) ∙ take-at (t .settings) (t .speeds) n e)
+
+  -- and the speeds behind them
+  back : (n m : ℕ) → n + m ≤ 14 → length (t .settings) ≡ n → length (t .speeds) ≡ m → valuesAt bytes (from n m) ≡ valuesAt image (t .speeds)
+  back n m h e f =
+      in-column image (positions t) n m h
+      ∙ ap (valuesAt image)
+      (in-a-row (positions t) n m (omega (arith, length-append (t .settings) (t .speeds)))
+      ∙ ap (take m) (drop-at (t .settings) (t .speeds) n e) ∙ take-all m (t .speeds) (omega arith))
+
+-- so a body of the registers' bytes asks what the registers of the table ask
+pub registers-ask : (chip : Chip) (table : ℕ) (image : List ℕ) (t : ℕ) → hasTable chip table ≡ true
+    → asks chip (planned chip (decoded chip table (column 14 (λ k. getD image (registerIn (tablesOf chip) table k) 0)))) t
+    ≡ asks chip (held (tableOf chip table) image) t
 unfolding sheetOf
-base-asks Nct7802y table base image t =
-    ap (λ (curve : Curve). asks Nct7802y curve t)
-    (λ i. record { settings = (shifted image base 0 5 ∙ ap (λ (first : ℕ). valuesAt image (from first 5)) (add-zero base)) i; speeds = shifted image base 5 4 i })
-base-asks F75373s table base image t =
-    sym (planned-count (decoded F75373s table (drop base image)) t)
-    ∙ ap₂ (λ (bounds counts : List ℕ). stepRule bounds (words counts) t)
-    (shifted image base 0 4 ∙ ap (λ (first : ℕ). valuesAt image (from first 4)) (add-zero base))
-    (shifted image base 4 10)
-base-asks Nct80 table base image t = refl
+registers-ask chip table image t has = by-chip chip (tableOf chip table) (table-laid chip table has)
+  where
+    by-chip : (c : Chip) (fan : Table) → layout fan ≡ layout (tableOf c 1)
+        → asks c (planned c (decoded c table (column 14 (λ k. getD image (getD (positions fan) k 0) 0)))) t ≡ asks c (held fan image) t
+    by-chip Nct7802y fan l =
+        let settings = ap (λ (f : Layout). f .settings) l in
+        let speeds = ap (λ (f : Layout). f .speeds) l in
+        ap (λ (curve : Curve). asks Nct7802y curve t)
+        (λ i. record { settings = front image fan 5 (omega arith) settings i; speeds = back image fan 5 4 (omega arith) settings speeds i })
+    by-chip F75373s fan l =
+        let settings = ap (λ (f : Layout). f .settings) l in
+        let speeds = ap (λ (f : Layout). f .speeds) l in
+        sym (planned-count (decoded F75373s table (bytes image fan)) t)
+        ∙ ap₂ (λ (bounds counts : List ℕ). stepRule bounds (words counts) t) (front image fan 4 (omega arith) settings) (back image fan 4 10 (omega arith) settings speeds)
+    by-chip Nct80 fan l = refl
 
 -- a part of a slice up to its end
 pub to-the-end : (l : List ℕ) (k : ℕ) → take (length l - k) (drop k l) ≡ drop k l
 to-the-end l k = take-all (length l - k) (drop k l) (omega (arith, length-drop k l))
-
--- so for the base of each table that the chip has
-pub body-asks : (chip : Chip) (table base : ℕ) (image : List ℕ) (t : ℕ) → hasTable chip table ≡ true → base ≡ baseOf chip table
-    → asks chip (planned chip (decoded chip table (take (length image - base) (drop base image)))) t ≡ asks chip (held (tableOf chip table) image) t
-body-asks chip table base image t has e =
-    ap (λ (body : List ℕ). asks chip (planned chip (decoded chip table body)) t) (to-the-end image base)
-    ∙ base-asks chip table base image t
-    ∙ ap (λ (registers : Table). asks chip (held registers image) t) (ap (tableFrom chip) e ∙ sym (table-at-base chip table has))

@@ -1,7 +1,9 @@
 // Cooling plans: which are accepted, and what speed a plan, or the curve in an image, asks at a temperature.
+mod tables;
+
 use cards::Chip;
+use cards::Fan;
 use cards::Named;
-use cards::Place;
 use curves::Plan;
 use refusal::Outcome;
 use refusal::Refusal;
@@ -24,7 +26,7 @@ pub enum Asked {
 fn judge_known(chip: Chip, plan: Plan) -> Outcome
     ensures { λ r. ⌜ tells r ≡ first ((not (hasTable chip (plan .table)), 4) ∷ (not (temperaturesInOrder chip plan), 6) ∷ (not (speedsInOrder chip plan), 7) ∷ []) ⌝ }
 {
-    if let Place::Nowhere = cards::table_at(chip, plan.table) {
+    if let Fan::Nothing = cards::table_of(chip, plan.table) {
         return Outcome::Refused(Refusal::NoSuchTable);
     }
     if !curves::temperatures_in_order(chip, plan) {
@@ -53,7 +55,7 @@ pub fn asked_of_plan(plan: Plan, t: u8) -> Asked
     match cards::chip_of(plan.chip) {
         Named::Unknown => Asked::Refused(Refusal::NoSuchChip),
         Named::Known(chip) => {
-            if let Place::Nowhere = cards::table_at(chip, plan.table) {
+            if let Fan::Nothing = cards::table_of(chip, plan.table) {
                 return Asked::Refused(Refusal::NoSuchTable);
             }
             Asked::Speed(curves::speed_of(chip, plan, t))
@@ -67,19 +69,15 @@ pub fn asked_of_image(chip: u8, table: u8, image: &[u8], t: u8) -> Asked
 {
     match cards::chip_of(chip) {
         Named::Unknown => Asked::Refused(Refusal::NoSuchChip),
-        Named::Known(known) => match cards::table_at(known, table) {
-            Place::Nowhere => Asked::Refused(Refusal::NoSuchTable),
-            Place::At(base) => {
+        Named::Known(known) => match cards::table_of(known, table) {
+            Fan::Nothing => Asked::Refused(Refusal::NoSuchTable),
+            Fan::Laid(_) => {
                 let sizes = cards::sizes_of(known);
                 if image.len() != sizes.image {
                     return Asked::Refused(Refusal::NotAnImage);
                 }
-                let at = base as usize;
-                Asked::Speed(curves::speed_of(
-                    known,
-                    bodies::plan_of(known, table, &image[at..]),
-                    t,
-                ))
+                let body = tables::held(known, table, image);
+                Asked::Speed(curves::speed_of(known, bodies::plan_of(known, table, &body), t))
             }
         },
     }

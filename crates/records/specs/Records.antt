@@ -2,10 +2,11 @@
 -- Assumes nothing.
 use Prim.Native.Nat.{ℕ, _+_}
 use mathlib.Core.List.{List, [], _∷_, _++_}
-use lib.ListN.{getD, drop}
+use lib.ListN.{length, getD, drop}
 use Rattle.cards.specs.declared.types.Chip.{Chip}
 use Rattle.cards.specs.declared.types.Chip.the-variants.{Nct7802y, F75373s, Nct80}
-use Rattle.cards.specs.Cards.{chipOf, whenKnown}
+use Rattle.cards.specs.Rows.{positions}
+use Rattle.cards.specs.Cards.{chipOf, whenKnown, tableOf}
 use Rattle.curves.specs.declared.Plan.{Plan}
 use Rattle.curves.specs.Values.{noSlope, noSteps}
 use Rattle.curves.specs.Planned.{planned}
@@ -15,11 +16,9 @@ use Rattle.bodies.specs.Bodies.{body, decoded}
 abbrev pub header : ℕ → ℕ → List ℕ
 header chip table = 0x43 ∷ 0x50 ∷ chip ∷ table ∷ []
 
--- "9 bytes for chip 1, 14 for chip 2"
+-- "9 bytes for chip 1, 14 for chip 2": one for each register of a table, and a chip's tables are alike
 abbrev pub bodyLength : Chip → ℕ
-bodyLength Nct7802y = 9
-bodyLength F75373s = 14
-bodyLength Nct80 = 0
+bodyLength chip = length (positions (tableOf chip 1))
 
 -- "the bytes used, 13 or 18"
 abbrev pub recordLength : Chip → ℕ

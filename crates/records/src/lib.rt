@@ -1,7 +1,7 @@
 // Plan records: read from bytes, and written to a lent buffer.
 use cards::Chip;
+use cards::Fan;
 use cards::Named;
-use cards::Place;
 use curves::NO_SLOPE;
 use curves::NO_STEPS;
 use curves::Plan;
@@ -38,10 +38,9 @@ fn refused(refusal: Refusal) -> Found
 fn body_length(chip: Chip) -> usize
     ensures { λ r. ⌜ r ≡ bodyLength chip ⌝ }
 {
-    match chip {
-        Chip::Nct7802y => 9,
-        Chip::F75373s => 14,
-        Chip::Nct80 => 0,
+    match cards::table_of(chip, 1) {
+        Fan::Nothing => 0,
+        Fan::Laid(layout) => layout.settings + layout.speeds,
     }
 }
 
@@ -52,7 +51,7 @@ pub fn plan_from(chip: u8, table: u8, bytes: &[u8]) -> Found
     let Named::Known(known) = cards::chip_of(chip) else {
         return refused(Refusal::NoSuchChip);
     };
-    if let Place::Nowhere = cards::table_at(known, table) {
+    if let Fan::Nothing = cards::table_of(known, table) {
         return refused(Refusal::NoSuchTable);
     }
     let length = body_length(known);

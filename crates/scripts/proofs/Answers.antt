@@ -18,7 +18,7 @@ use Rattle.refusal.specs.declared.Count.the-variants as counted
 use Rattle.curves.specs.declared.Plan.{Plan}
 use Rattle.plans.specs.Contracts.{planChecks}
 use Rattle.records.specs.Contracts.{roomChecks}
-use Rattle.scripts.specs.declared.making.Layout.{Layout}
+use Rattle.scripts.specs.declared.making.Target.{Target}
 use Rattle.scripts.specs.Scripts.{Pair, flat, scriptFor}
 use Rattle.scripts.specs.Contracts.{scriptChecks, Scripts}
 use Rattle.scripts.specs.Making.{writesOf, pairsOf, Describes, Puts}
@@ -44,7 +44,7 @@ module _ (plan : Plan) (out : List ℕ) where
       let all = still-refused r (planChecks plan) (roomChecks (2 * length pairs) out) e in
       record { answer = told-refused r (scriptChecks plan out) (length pairs) all; bytes = when-refused r _ out all }
 
-  pub script-put : {l : Layout} {bytes new : List ℕ} {r : Count} → first (planChecks plan) ≡ 0 → Describes l bytes pairs → Puts l bytes out r new
+  pub script-put : {l : Target} {bytes new : List ℕ} {r : Count} → first (planChecks plan) ≡ 0 → Describes l bytes pairs → Puts l bytes out r new
       → Scripts plan out r new
   script-put {l} {bytes} {new} {r} e d p =
       let whole : pairsOf l bytes (writesOf l) ≡ pairs =

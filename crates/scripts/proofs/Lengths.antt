@@ -1,6 +1,6 @@
 -- A script has as many writes as the paper says: it is described, pair by pair, by what is laid out from the plan's record, whose parts are counted.
 -- Assumes nothing.
-use Prim.Native.Nat.{ℕ, _≤_}
+use Prim.Native.Nat.{ℕ, _+_, _≤_}
 use native.Mathlib.Omega.{arith}
 use mathlib.Core.Path.{_≡_, refl, sym, ap, _∙_}
 use mathlib.Core.Bool.{So}
@@ -14,7 +14,9 @@ use Rattle.cards.specs.declared.types.Chip.{Chip}
 use Rattle.cards.specs.declared.types.Chip.the-variants.{Nct7802y, F75373s, Nct80}
 use Rattle.cards.specs.declared.types.Named.{Named}
 use Rattle.cards.specs.declared.types.Named.the-variants.{Known, Unknown}
-use Rattle.cards.specs.Cards.{chipOf, hasTable}
+use Rattle.cards.specs.declared.types.Layout.{Layout}
+use Rattle.cards.specs.Cards.{sheetOf, chipOf, hasTable}
+use Rattle.cards.proofs.Tables.{table-laid}
 use Rattle.curves.specs.declared.Plan.{Plan}
 use Rattle.plans.specs.Contracts.{planChecks}
 use Rattle.curves.specs.Values.{Sized}
@@ -23,10 +25,14 @@ use Rattle.scripts.specs.Contracts.{scriptChecks, Scripts}
 use Rattle.scripts.proofs.Prepared.{describes-plan}
 
 -- "13 writes", "24 writes"
+pub script-lengths : (scriptLength Nct7802y ≡ 13) × (scriptLength F75373s ≡ 24)
+unfolding sheetOf
+script-lengths = (refl, refl)
+
+-- as many as a plan's script has
 pub script-of-plan : (chip : Chip) (plan : Plan) → Sized plan → So (hasTable chip (plan .table)) → length (scriptOf chip plan) ≡ scriptLength chip
-script-of-plan Nct7802y plan S has = sym (describes-plan Nct7802y plan [] S has .writes)
-script-of-plan F75373s plan S has = sym (describes-plan F75373s plan [] S has .writes)
-script-of-plan Nct80 plan S has = sym (describes-plan Nct80 plan [] S has .writes)
+script-of-plan chip plan S has =
+    sym (describes-plan chip plan [] S has .writes) ∙ ap (λ (l : Layout). l .speeds + (l .settings + l .speeds)) (table-laid chip (plan .table) has)
 
 -- "The answer says how many writes."
 pub script-counts : {plan : Plan} {out new : List ℕ} {n : ℕ} (chip : Chip) → chipOf (plan .chip) ≡ Known chip → Sized plan
@@ -39,6 +45,7 @@ script-counts {plan} {out} {new} {n} chip e S p =
 
 -- so 48 bytes hold the script of each accepted plan
 pub script-short : (plan : Plan) → Sized plan → first (planChecks plan) ≡ 0 → length (scriptFor plan) ≤ 24
+unfolding sheetOf
 script-short plan S e = by-name (chipOf (plan .chip)) refl
   where
     checks : Passed (planChecks plan)

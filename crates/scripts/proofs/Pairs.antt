@@ -1,15 +1,14 @@
--- The pairs of a script by their places: first every speed register in a row with the full byte, then every register of the table in a row with the
--- bytes of the plan's body.
+-- The pairs of a script by their places: first every speed register of the table with the full byte, then every register with the bytes of the
+-- plan's body.
 -- Assumes nothing.
 use Prim.Native.Nat.{ℕ, zero, suc, _+_, _<_}
-use native.Mathlib.Nat.{suc-inj, add-suc, suc-add, add-zero, zero-add, le-of-suc-le-suc, not-suc-le-zero}
+use native.Mathlib.Nat.{suc-inj, le-of-suc-le-suc, not-suc-le-zero}
 use native.Mathlib.Omega.{arith}
 use mathlib.Core.Path.{_≡_, refl, sym, ap, ap₂, _∙_}
 use mathlib.Core.List.{List, [], _∷_, _++_}
 use lib.ListN.{length, getD, length-append, length-replicate, getD-replicate, List·getD-append}
 use lib.Seq.{getD-append-add}
-use Rattle.cards.specs.Rows.{Table, from}
-use Rattle.cards.proofs.Columns.{run-length, run-at}
+use Rattle.cards.specs.Rows.{Table, positions}
 use Rattle.curves.specs.Orders.{fulls}
 use Rattle.curves.specs.Planned.{Curve}
 use Rattle.bodies.specs.Bodies.{body}
@@ -35,62 +34,43 @@ writes-at (p ∷ ps) [] k h e = cc
 writes-at (p ∷ ps) (b ∷ bs) zero h e = refl
 writes-at (p ∷ ps) (b ∷ bs) (suc k) h e = writes-at ps bs k (le-of-suc-le-suc h) (suc-inj e)
 
--- two rows of registers, one behind the other, are one row
-from-append : (b m n : ℕ) → from b m ++ from (b + m) n ≡ from b (m + n)
-from-append b zero n = ap₂ from (add-zero b) (sym (zero-add n))
-from-append b (suc m) n =
-    ap₂ _∷_ refl (ap (λ (a : ℕ). from (suc b) m ++ from a n) (add-suc b m ∙ sym (suc-add b m)) ∙ from-append (suc b) m n)
-    ∙ sym (ap (from b) (suc-add m n))
-
--- a table whose registers stand in a row from a base on: s settings, then v speeds
-abbrev pub rowTable : ℕ → ℕ → ℕ → Table
-rowTable base s v = record { settings = from base s; speeds = from (base + s) v }
-
-module _ (full base s v : ℕ) (curve : Curve) (es : length (curve .settings) ≡ s) (ev : length (curve .speeds) ≡ v) where
-  from-length : (b n : ℕ) → length (from b n) ≡ n
-  from-length b n = run-length (λ a. a) b n
-
+module _ (full : ℕ) (table : Table) (curve : Curve)
+    (es : length (table .settings) ≡ length (curve .settings)) (ev : length (table .speeds) ≡ length (curve .speeds)) where
   abbrev raises : List Pair
-  raises = writes (from (base + s) v) (fulls full (from (base + s) v))
+  raises = writes (table .speeds) (fulls full (table .speeds))
 
   abbrev rest : List Pair
-  rest = writes (from base (s + v)) (body curve)
+  rest = writes (positions table) (body curve)
 
-  script-parts : script full (rowTable base s v) curve ≡ raises ++ rest
+  script-parts : script full table curve ≡ raises ++ rest
   script-parts =
-      ap (λ (l : List Pair). raises ++ l)
-      (sym (writes-append (from base s) (from (base + s) v) (curve .settings) (curve .speeds) (from-length base s ∙ sym es))
-      ∙ ap (λ (ps : List ℕ). writes ps (body curve)) (from-append base s v))
+      ap (λ (l : List Pair). raises ++ l) (sym (writes-append (table .settings) (table .speeds) (curve .settings) (curve .speeds) es))
 
-  raises-length : length raises ≡ v
+  raises-length : length raises ≡ length (table .speeds)
   raises-length =
-      writes-length (from (base + s) v) (fulls full (from (base + s) v)) (sym (length-replicate (length (from (base + s) v)) full))
-      ∙ from-length (base + s) v
+      writes-length (table .speeds) (fulls full (table .speeds)) (sym (length-replicate (length (table .speeds)) full))
 
-  body-length : length (body curve) ≡ s + v
-  body-length = length-append (curve .settings) (curve .speeds) ∙ ap₂ _+_ es ev
+  as-long : length (positions table) ≡ length (body curve)
+  as-long =
+      length-append (table .settings) (table .speeds) ∙ ap₂ _+_ es ev ∙ sym (length-append (curve .settings) (curve .speeds))
 
-  rest-length : length rest ≡ s + v
-  rest-length =
-      writes-length (from base (s + v)) (body curve) (from-length base (s + v) ∙ sym body-length) ∙ from-length base (s + v)
+  pub script-length : length (script full table curve) ≡ length (table .speeds) + (length (table .settings) + length (table .speeds))
+  script-length =
+      ap length script-parts ∙ length-append raises rest
+      ∙ ap₂ _+_ raises-length (writes-length (positions table) (body curve) as-long ∙ length-append (table .settings) (table .speeds))
 
-  pub script-length : length (script full (rowTable base s v) curve) ≡ v + (s + v)
-  script-length = ap length script-parts ∙ length-append raises rest ∙ ap₂ _+_ raises-length rest-length
-
-  pub raised-at : (k : ℕ) → k < v → getD (script full (rowTable base s v) curve) k nothing ≡ (base + s + k, full)
+  pub raised-at : (k : ℕ) → k < length (table .speeds)
+      → getD (script full table curve) k nothing ≡ (getD (positions table) (length (table .settings) + k) 0, full)
   raised-at k h =
-      let registers = from (base + s) v in
-      let inside : k < length (from (base + s) v) = omega (arith, from-length (base + s) v) in
       ap (λ (l : List Pair). getD l k nothing) script-parts
       ∙ List·getD-append raises rest nothing k (omega (arith, raises-length))
-      ∙ writes-at registers (fulls full registers) k inside (sym (length-replicate (length registers) full))
-      ∙ ap₂ (λ (a b : ℕ). (a, b)) (run-at (λ a. a) (base + s) v k h) (getD-replicate (length registers) k full 0 inside)
+      ∙ writes-at (table .speeds) (fulls full (table .speeds)) k h (sym (length-replicate (length (table .speeds)) full))
+      ∙ ap₂ (λ (a b : ℕ). (a, b)) (sym (getD-append-add (table .settings) (table .speeds) k 0)) (getD-replicate (length (table .speeds)) k full 0 h)
 
-  pub body-at : (j : ℕ) → j < s + v → getD (script full (rowTable base s v) curve) (v + j) nothing ≡ (base + j, getD (body curve) j 0)
+  pub body-at : (j : ℕ) → j < length (table .settings) + length (table .speeds)
+      → getD (script full table curve) (length (table .speeds) + j) nothing ≡ (getD (positions table) j 0, getD (body curve) j 0)
   body-at j h =
-      let inside : j < length (from base (s + v)) = omega (arith, from-length base (s + v)) in
-      ap (λ (l : List Pair). getD l (v + j) nothing) script-parts
+      ap (λ (l : List Pair). getD l (length (table .speeds) + j) nothing) script-parts
       ∙ ap (λ (n : ℕ). getD (raises ++ rest) (n + j) nothing) (sym raises-length)
       ∙ getD-append-add raises rest j nothing
-      ∙ writes-at (from base (s + v)) (body curve) j inside (from-length base (s + v) ∙ sym body-length)
-      ∙ ap (λ (a : ℕ). (a, getD (body curve) j 0)) (run-at (λ a. a) base (s + v) j h)
+      ∙ writes-at (positions table) (body curve) j (omega (arith, length-append (table .settings) (table .speeds))) as-long

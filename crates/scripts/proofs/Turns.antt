@@ -13,7 +13,7 @@ use Rattle.refusal.specs.Checks.{first}
 use Rattle.refusal.proofs.Passed.{when-passed, when-refused, told-passed, told-refused}
 use Rattle.refusal.specs.declared.Count.the-variants as counted
 use Rattle.records.specs.Contracts.{roomChecks}
-use Rattle.scripts.specs.declared.making.Layout.{Layout}
+use Rattle.scripts.specs.declared.making.Target.{Target}
 use Rattle.scripts.specs.Scripts.{Pair, flat}
 use Rattle.scripts.specs.Making.{writesOf, pairAt, pairsOf, Puts}
 
@@ -25,7 +25,7 @@ flat-length : (xs : List Pair) → length (flat xs) ≡ 2 * length xs
 flat-length [] = refl
 flat-length (x ∷ xs) = omega (arith, flat-length xs)
 
-pairs-length : (l : Layout) (bytes : List ℕ) (n : ℕ) → length (pairsOf l bytes n) ≡ n
+pairs-length : (l : Target) (bytes : List ℕ) (n : ℕ) → length (pairsOf l bytes n) ≡ n
 pairs-length l bytes zero = refl
 pairs-length l bytes (suc n) =
     length-append (pairsOf l bytes n) ((pairAt l bytes n .address, pairAt l bytes n .byte) ∷ [])
@@ -33,17 +33,17 @@ pairs-length l bytes (suc n) =
     ∙ ap suc (pairs-length l bytes n)
 
 -- the first k pairs stand in the buffer, which has room for all, and the rest of it is as it was
-pub record Written (l : Layout) (bytes old out : List ℕ) (k : ℕ) : Type 0 where
+pub record Written (l : Target) (bytes old out : List ℕ) (k : ℕ) : Type 0 where
   pub within : k ≤ writesOf l
   pub room : 2 * writesOf l ≤ length old
   pub long : length out ≡ length old
   pub same : out ≡ flat (pairsOf l bytes k) ++ drop (2 * k) old
 
-pub written-none : (l : Layout) (bytes old : List ℕ) → 2 * writesOf l ≤ length old → Written l bytes old old 0
+pub written-none : (l : Target) (bytes old : List ℕ) → 2 * writesOf l ≤ length old → Written l bytes old old 0
 written-none l bytes old h = record { within = omega arith; room = h; long = refl; same = refl }
 
 -- the next pair lies in the buffer
-pub next-inside : {l : Layout} {bytes old out : List ℕ} {k : ℕ} → Written l bytes old out k → k < writesOf l → 2 * k + 1 < length out
+pub next-inside : {l : Target} {bytes old out : List ℕ} {k : ℕ} → Written l bytes old out k → k < writesOf l → 2 * k + 1 < length out
 next-inside w h = omega (arith, w .room, w .long)
 
 -- two bytes at the seam of two lists
@@ -55,7 +55,7 @@ two-at front x y back a b n e =
     ∙ append-assoc front (a ∷ []) (b ∷ back)
     ∙ sym (append-assoc front (a ∷ (b ∷ [])) back)
 
-pub written-more : {l : Layout} {bytes old out : List ℕ} {k : ℕ} (a b : ℕ) → Written l bytes old out k → k < writesOf l
+pub written-more : {l : Target} {bytes old out : List ℕ} {k : ℕ} (a b : ℕ) → Written l bytes old out k → k < writesOf l
     → a ≡ pairAt l bytes k .address → b ≡ pairAt l bytes k .byte
     → Written l bytes old (set (set out (2 * k) a) (2 * k + 1) b) (k + 1)
 written-more {l} {bytes} {old} {out} {k} a b w h ea eb =
@@ -81,7 +81,7 @@ written-more {l} {bytes} {old} {out} {k} a b w h ea eb =
     }
 
 -- all of them, or none where there is no room
-pub put-all : {l : Layout} {bytes old out : List ℕ} {k : ℕ} → Written l bytes old out k → writesOf l ≤ k
+pub put-all : {l : Target} {bytes old out : List ℕ} {k : ℕ} → Written l bytes old out k → writesOf l ≤ k
     → Puts l bytes old (counted.Of (writesOf l)) out
 put-all {l} {bytes} {old} {out} {k} w h =
     let all : k ≡ writesOf l = omega (arith, w .within) in
@@ -91,7 +91,7 @@ put-all {l} {bytes} {old} {out} {k} w h =
       bytes = w .same ∙ ap (λ (j : ℕ). flat (pairsOf l bytes j) ++ drop (2 * j) old) all ∙ when-passed _ old none;
     }
 
-pub put-none : (l : Layout) (bytes old : List ℕ) → length old < 2 * writesOf l → Puts l bytes old (counted.Refused OutputTooShort) old
+pub put-none : (l : Target) (bytes old : List ℕ) → length old < 2 * writesOf l → Puts l bytes old (counted.Refused OutputTooShort) old
 put-none l bytes old h =
     let all : 9 ≡ first (roomChecks (2 * writesOf l) old) = rw (lt-ltb (length old) (2 * writesOf l) h) in
     record { answer = told-refused OutputTooShort (roomChecks (2 * writesOf l) old) (writesOf l) all; bytes = when-refused OutputTooShort _ old all }

@@ -2,7 +2,7 @@
 -- Assumes nothing.
 use Prim.Native.Nat.{ℕ, zero, suc, _+_, _*_}
 use mathlib.Core.List.{List, [], _∷_, _++_}
-use lib.ListN.{getD}
+use lib.ListN.{length, getD}
 use Rattle.cards.specs.declared.types.Chip.{Chip}
 use Rattle.cards.specs.declared.types.Chip.the-variants.{Nct7802y, F75373s, Nct80}
 use Rattle.cards.specs.Rows.{Table}
@@ -36,11 +36,9 @@ script full table curve =
 unfoldable pub scriptOf : Chip → Plan → List Pair
 scriptOf chip plan = script (fullOf chip) (tableOf chip (plan .table)) (planned chip plan)
 
--- "13 writes"; "24 writes"; chip 3 has no fan table, so none
+-- "13 writes"; "24 writes": one for each speed, then one for each register
 abbrev pub scriptLength : Chip → ℕ
-scriptLength Nct7802y = 13
-scriptLength F75373s = 24
-scriptLength Nct80 = 0
+scriptLength chip = length (tableOf chip 1 .speeds) + (length (tableOf chip 1 .settings) + length (tableOf chip 1 .speeds))
 
 -- the script's bytes, address first
 abbrev pub flat : List Pair → List ℕ

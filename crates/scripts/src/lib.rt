@@ -15,8 +15,8 @@ pub fn script(plan: Plan, out: &mut [u8]) -> Count
     match records::write(plan, &mut bytes) {
         Count::Refused(refusal) => Count::Refused(refusal),
         Count::Of(_) => {
-            let layout = making::layout_of(plan.chip, plan.table);
-            output::put_all(layout, bytes, out)
+            let target = making::target_of(plan.chip, plan.table);
+            output::put_all(target, bytes, out)
         }
     }
 }

@@ -1,14 +1,14 @@
--- `plans::asked_of_image` meets its contract: each answer knows the chip, the table and how long the image is; the body at the base asks what the table does.
+-- `plans::asked_of_image` meets its contract: each answer knows the chip, the table and how long the image is; the registers' bytes ask what they do.
 -- Assumes nothing.
-use Rattle.plans.proofs.Registers.{body-asks}
-use borrow.Author.Tests.{eq-eqb, ne-eqb}
-use mathlib.Core.Path.{_≡_, sym, ap, _∙_}
 use Prim.Native.Nat.{ℕ}
-use native.Mathlib.Omega.{arith}
-use lib.ListN.{length}
+use mathlib.Core.Path.{sym, ap, _∙_}
+use borrow.Author.Tests.{eq-eqb, ne-eqb}
 use Rattle.cards.specs.declared.types.Sizes.{Sizes}
-use Rattle.cards.specs.Cards.{sizeOf}
-use Rattle.cards.proofs.Tables.{base-inside, place-found, place-missed}
+use Rattle.cards.proofs.Tables.{table-found, table-missed}
+use Rattle.curves.specs.declared.Plan.{Plan}
+use Rattle.curves.specs.Planned.{planned, asks}
+use Rattle.bodies.specs.Bodies.{decoded}
+use Rattle.plans.proofs.Registers.{registers-ask}
 use borrow.Author.Needs.{needs}
 use Rattle.plans.proofs.asked_of_image.Statement.{statement}
 use Rattle.plans.proofs.asked_of_image.Tie as tie
@@ -22,14 +22,14 @@ enum-told c = search needs
 enum-known-known : tie.Need-enum-known-known
 enum-known-known c = search needs
 
-table-at-requires : tie.Need-table-at-requires
-table-at-requires c κs = search needs
+table-of-requires : tie.Need-table-of-requires
+table-of-requires c κs = search needs
 
 enum-told-2 : tie.Need-enum-told-2
 enum-told-2 c = search needs
 
-enum-known-base : tie.Need-enum-known-base
-enum-known-base c = search needs
+enum-told-3 : tie.Need-enum-told-3
+enum-told-3 c = search needs
 
 sizes-of-requires : tie.Need-sizes-of-requires
 sizes-of-requires c κs = search needs
@@ -37,29 +37,18 @@ sizes-of-requires c κs = search needs
 returns : tie.Need-returns
 returns c =
     let s = c .before .before in
-    let k = s .before .before in
+    let f = s .before .before .before in
+    let n = f .before .before in
+    let e = sym (n .before .before .chip-of .ensures .answer) ∙ n .known .given .1 in
+    let found = table-found _ (f .table-of .ensures) (s .before .enum-told3 .given .1) in
     let long = ap (λ (z : Sizes). z .image) (s .sizes-of .ensures .answer) in
-    let e = sym (k .before .before .before .before .before .before .chip-of .ensures .answer) ∙ k .before .before .before .before .known .given .1 in
-    record { answer = rw (e, place-found _ (k .before .before .table-at .ensures) (k .base .given .1) .0, ne-eqb _ _ (λ q. c .if1 .taken (q ∙ sym long))) }
+    record { answer = rw (e, found .0, ne-eqb _ _ (λ q. c .if1 .taken (q ∙ sym long))) }
 
-cast-at : tie.Need-cast-at
-cast-at c = search needs
+held-requires : tie.Need-held-requires
+held-requires c κs = search needs
 
-sub-plan-of : tie.Need-sub-plan-of
-sub-plan-of c =
-    let s = c .before .before in
-    let k = s .before .before in
-    let known = k .before .before .before .before .known .given .0 .0 in
-    let a = k .before .before .before .before .before .before .before .before .args in
-    let found = place-found _ (k .before .before .table-at .ensures) (k .base .given .1) in
-    let long : length (a .image .now) ≡ sizeOf known = c .if1 .left ∙ ap (λ (z : Sizes). z .image) (s .sizes-of .ensures .answer) in
-    omega (arith, long, found .1, base-inside known (a .table) (found .0))
-
-part-plan-of-start : tie.Need-part-plan-of-start
-part-plan-of-start c = sub-plan-of c
-
-part-plan-of-end : tie.Need-part-plan-of-end
-part-plan-of-end c = search needs
+slice-aggregate-plan-of : tie.Need-slice-aggregate-plan-of
+slice-aggregate-plan-of c = search needs
 
 plan-of-requires : tie.Need-plan-of-requires
 plan-of-requires c κs = search needs
@@ -72,22 +61,30 @@ returns-2 c = record { answer = simp (sym (c .before .before .chip-of .ensures .
 
 returns-3 : tie.Need-returns-3
 returns-3 c =
-    let k = c .before .before in
-    let e = sym (k .before .before .before .before .chip-of .ensures .answer) ∙ k .before .before .known .given .1 in
-    record { answer = rw (e, place-missed (k .table-at .ensures) (c .enum-told2 .given .1)) }
+    let f = c .before .before in
+    let n = f .before .before in
+    let e = sym (n .before .before .chip-of .ensures .answer) ∙ n .known .given .1 in
+    record { answer = rw (e, table-missed (f .table-of .ensures) (c .enum-told2 .given .1)) }
 
 returns-4 : tie.Need-returns-4
 returns-4 c =
-    let i = c .before .before .before in
-    let s = i .before .before in
-    let k = s .before .before in
-    let long = i .if1 .left ∙ ap (λ (z : Sizes). z .image) (s .sizes-of .ensures .answer) in
-    let e = sym (k .before .before .before .before .before .before .chip-of .ensures .answer) ∙ k .before .before .before .before .known .given .1 in
-    let found = place-found _ (k .before .before .table-at .ensures) (k .base .given .1) in
-    let known = k .before .before .before .before .known .given .0 .0 in
-    let a = k .before .before .before .before .before .before .before .before .args in
-    let asked = body-asks known (a .table) (k .base .given .0 .0) (a .image .now) (a .t) (found .0) (found .1) in
-    record { answer = rw (e, found .0, eq-eqb _ _ long) (ap (λ (speed : ℕ). (0, speed)) (c .speed-of .ensures .answer ∙ rw (c .before .plan-of .ensures .answer) asked)) }
+    let h = c .before .before .before in
+    let s = h .before .before .before in
+    let f = s .before .before .before in
+    let n = f .before .before in
+    let a = n .before .before .before .before .args in
+    let known = n .known .given .0 .0 in
+    let e = sym (n .before .before .chip-of .ensures .answer) ∙ n .known .given .1 in
+    let found = table-found _ (f .table-of .ensures) (s .before .enum-told3 .given .1) in
+    let long = ap (λ (z : Sizes). z .image) (s .sizes-of .ensures .answer) in
+    let plan = c .before .plan-of .ensures .answer ∙ ap (decoded known (a .table)) (h .held .ensures) in
+    record {
+      answer = rw (e, found .0, eq-eqb _ _ (h .before .if1 .left ∙ long))
+          (ap (λ (speed : ℕ). (0, speed))
+          (c .speed-of .ensures .answer
+          ∙ ap (λ (p : Plan). asks known (planned known p) (a .t)) plan
+          ∙ registers-ask known (a .table) (a .image .now) (a .t) (found .0)));
+    }
 
 pub asked-of-image-spec : {M : Type 1} → statement M
 asked-of-image-spec =
@@ -96,15 +93,13 @@ asked-of-image-spec =
     chip-of-requires
     enum-told
     enum-known-known
-    table-at-requires
+    table-of-requires
     enum-told-2
-    enum-known-base
+    enum-told-3
     sizes-of-requires
     returns
-    cast-at
-    sub-plan-of
-    part-plan-of-start
-    part-plan-of-end
+    held-requires
+    slice-aggregate-plan-of
     plan-of-requires
     speed-of-requires
     returns-2

@@ -2,7 +2,7 @@
 -- Assumes nothing.
 use mathlib.Core.Path.{sym, ap, _∙_}
 use Prim.Native.Nat.{ℕ}
-use Rattle.cards.proofs.Tables.{place-found, place-missed}
+use Rattle.cards.proofs.Tables.{table-found, table-missed}
 use borrow.Author.Needs.{needs}
 use Rattle.plans.proofs.asked_of_plan.Statement.{statement}
 use Rattle.plans.proofs.asked_of_plan.Tie as tie
@@ -16,8 +16,8 @@ enum-told c = search needs
 enum-known-chip : tie.Need-enum-known-chip
 enum-known-chip c = search needs
 
-table-at-requires : tie.Need-table-at-requires
-table-at-requires c κs = search needs
+table-of-requires : tie.Need-table-of-requires
+table-of-requires c κs = search needs
 
 enum-told-2 : tie.Need-enum-told-2
 enum-told-2 c = search needs
@@ -26,7 +26,7 @@ returns : tie.Need-returns
 returns c =
     let k = c .before .before in
     let e = sym (k .before .before .before .before .chip-of .ensures .answer) ∙ k .before .before .chip .given .1 in
-    record { answer = rw (e, place-missed (k .table-at .ensures) (c .enum-told2 .given .1)) }
+    record { answer = rw (e, table-missed (k .table-of .ensures) (c .enum-told2 .given .1)) }
 
 enum-told-3 : tie.Need-enum-told-3
 enum-told-3 c = search needs
@@ -42,7 +42,7 @@ returns-3 c =
     let k = c .before .before .before in
     let e = sym (k .before .before .before .before .chip-of .ensures .answer) ∙ k .before .before .chip .given .1 in
     record {
-      answer = rw (e, place-found _ (k .table-at .ensures) (c .before .enum-told3 .given .1) .0) (ap (λ (speed : ℕ). (0, speed)) (c .speed-of .ensures .answer));
+      answer = rw (e, table-found _ (k .table-of .ensures) (c .before .enum-told3 .given .1) .0) (ap (λ (speed : ℕ). (0, speed)) (c .speed-of .ensures .answer));
     }
 
 pub asked-of-plan-spec : {M : Type 1} → statement M
@@ -52,7 +52,7 @@ asked-of-plan-spec =
     chip-of-requires
     enum-told
     enum-known-chip
-    table-at-requires
+    table-of-requires
     enum-told-2
     returns
     enum-told-3

@@ -11,7 +11,7 @@ use lib.ListN.{length}
 use Rattle.cards.specs.declared.types.Chip.{Chip}
 use Rattle.cards.specs.declared.types.Named.the-variants.{Known}
 use Rattle.cards.specs.Cards.{chipOf, hasTable}
-use Rattle.cards.proofs.Tables.{place-found, place-missed}
+use Rattle.cards.proofs.Tables.{table-found, table-missed}
 use Rattle.records.specs.Records.{bodyLength}
 use Rattle.records.proofs.Answers.{Whole, plan-refused, plan-accepted}
 use Rattle.records.proofs.plan_from.Statement.{statement}
@@ -35,7 +35,7 @@ abbrev bytes : tie.After-body-length → List ℕ
 bytes c = start (known c) .args .bytes .now
 
 has : (c : tie.After-body-length) → hasTable (chip (known c)) (start (known c) .args .table) ≡ true
-has c = place-found _ (c .before .before .before .table-at .ensures) (c .before .enum-told3 .given .1) .0
+has c = table-found _ (c .before .before .before .table-of .ensures) (c .before .enum-told3 .given .1) .0
 
 chip-of-requires : tie.Need-chip-of-requires
 chip-of-requires c κs = search needs
@@ -54,8 +54,8 @@ returns c =
     let e = sym (c .before .before .before .chip-of .ensures .answer) ∙ c .before .enum-told .given .1 in
     plan-refused _ _ _ (c .refused .ensures) (rw e)
 
-table-at-requires : tie.Need-table-at-requires
-table-at-requires c κs = search needs
+table-of-requires : tie.Need-table-of-requires
+table-of-requires c κs = search needs
 
 enum-told-2 : tie.Need-enum-told-2
 enum-told-2 c = search needs
@@ -66,7 +66,7 @@ refused-requires-2 c κs = search needs
 returns-2 : tie.Need-returns-2
 returns-2 c =
     let t = c .before .before .before in
-    let missed = place-missed (t .table-at .ensures) (c .before .enum-told2 .given .1) in
+    let missed = table-missed (t .table-of .ensures) (c .before .enum-told2 .given .1) in
     plan-refused _ _ _ (c .refused2 .ensures) (rw (named (t .before), missed))
 
 enum-told-3 : tie.Need-enum-told-3
@@ -103,7 +103,7 @@ plan-from-spec =
     enum-told
     refused-requires
     returns
-    table-at-requires
+    table-of-requires
     enum-told-2
     refused-requires-2
     returns-2

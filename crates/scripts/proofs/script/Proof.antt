@@ -2,7 +2,7 @@
 -- Assumes nothing.
 use Rattle.refusal.specs.declared.Count.{Count}
 use Rattle.refusal.specs.Answers.{tellsCount}
-use Rattle.scripts.proofs.Prepared.{in-image, judged, prepared}
+use Rattle.scripts.proofs.Prepared.{short-target, judged, prepared}
 use Rattle.scripts.proofs.Answers.{script-refused, script-put}
 use Rattle.curves.proofs.Owned.{plan-typed}
 use mathlib.Core.Path.{refl, sym, ap, _∙_}
@@ -22,11 +22,11 @@ enum-known-refusal c = search needs
 enum-told : tie.Need-enum-told
 enum-told c = search needs
 
-layout-of-requires : tie.Need-layout-of-requires
-layout-of-requires c κs = search needs
+target-of-requires : tie.Need-target-of-requires
+target-of-requires c κs = search needs
 
 put-all-requires : tie.Need-put-all-requires
-put-all-requires c κs = in-image (c .before .layout-of .ensures)
+put-all-requires c κs = short-target (c .before .target-of .ensures)
 
 returns : tie.Need-returns
 returns c =
@@ -43,7 +43,7 @@ returns-2 c =
     let wrote = laid .before .before .before .before in
     let sized = plan-typed _ _ (wrote .before .before .before .good .0) .sized in
     let accepted = sym (judged sized refl (wrote .write .ensures)) ∙ ap (λ (u : Count). tellsCount u .0) (laid .before .enum-told .given .1) in
-    script-put _ _ accepted (prepared sized refl (wrote .write .ensures) (laid .layout-of .ensures) accepted) (c .before .before .put-all .ensures)
+    script-put _ _ accepted (prepared sized refl (wrote .write .ensures) (laid .target-of .ensures) accepted) (c .before .before .put-all .ensures)
 
 pub script-spec : {M : Type 1} → statement M
 script-spec =
@@ -53,7 +53,7 @@ script-spec =
     write-requires
     enum-known-refusal
     enum-told
-    layout-of-requires
+    target-of-requires
     put-all-requires
     returns
     same-length

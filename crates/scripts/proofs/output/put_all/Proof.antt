@@ -11,10 +11,10 @@ use Rattle.scripts.proofs.output.put_all.Statement.{statement}
 use Rattle.scripts.proofs.output.put_all.Tie as tie
 
 abbrev Inv-loop : tie.InvT-loop
-Inv-loop layout bytes out₀ writes k₀ out k = Written layout bytes out₀ out k
+Inv-loop target bytes out₀ writes k₀ out k = Written target bytes out₀ out k
 
 abbrev μ-loop : tie.MeasureT-loop
-μ-loop layout bytes out₀ writes k₀ out k = writes - k
+μ-loop target bytes out₀ writes k₀ out k = writes - k
 
 add-writes : tie.Need-add-writes Inv-loop μ-loop
 add-writes c = search needs
