@@ -11,7 +11,7 @@ use crate::types::NOTHING;
 use crate::types::Required;
 use crate::types::Shape;
 use crate::types::Sizes;
-use crate::types::nth;
+use crate::types::in_a_row;
 use clears::CLEARS;
 use power_on::POWER_ON;
 use writable::WRITABLE;
@@ -84,46 +84,12 @@ pub(crate) fn required(k: usize) -> Required
 }
 
 // The registers of the fan tables: B1 to B4, C1 to C5, high byte first.
-const TABLE_1: [usize; 14] = [
-    0xA0,
-    0xA1,
-    0xA2,
-    0xA3,
-    0xA4,
-    0xA5,
-    0xA6,
-    0xA7,
-    0xA8,
-    0xA9,
-    0xAA,
-    0xAB,
-    0xAC,
-    0xAD,
-];
-
-const TABLE_2: [usize; 14] = [
-    0xB0,
-    0xB1,
-    0xB2,
-    0xB3,
-    0xB4,
-    0xB5,
-    0xB6,
-    0xB7,
-    0xB8,
-    0xB9,
-    0xBA,
-    0xBB,
-    0xBC,
-    0xBD,
-];
-
 pub(crate) fn register(number: u8, k: usize) -> usize
     ensures { λ r. ⌜ r ≡ registerIn tables number k ⌝ }
 {
     match number {
-        1 => nth(&TABLE_1, k),
-        2 => nth(&TABLE_2, k),
+        1 => in_a_row(0xA0, 14, k),
+        2 => in_a_row(0xB0, 14, k),
         _ => 0,
     }
 }

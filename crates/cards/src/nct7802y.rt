@@ -11,7 +11,7 @@ use crate::types::NOTHING;
 use crate::types::Required;
 use crate::types::Shape;
 use crate::types::Sizes;
-use crate::types::nth;
+use crate::types::in_a_row;
 use clears::CLEARS;
 use power_on::POWER_ON;
 use writable::WRITABLE;
@@ -89,19 +89,13 @@ pub(crate) fn required(k: usize) -> Required
 }
 
 // The registers of the fan tables: T1 to T4, critical, FL1 to FL4.
-const TABLE_1: [usize; 9] = [0x80, 0x81, 0x82, 0x83, 0x84, 0x85, 0x86, 0x87, 0x88];
-
-const TABLE_2: [usize; 9] = [0x90, 0x91, 0x92, 0x93, 0x94, 0x95, 0x96, 0x97, 0x98];
-
-const TABLE_3: [usize; 9] = [0xA0, 0xA1, 0xA2, 0xA3, 0xA4, 0xA5, 0xA6, 0xA7, 0xA8];
-
 pub(crate) fn register(number: u8, k: usize) -> usize
     ensures { λ r. ⌜ r ≡ registerIn tables number k ⌝ }
 {
     match number {
-        1 => nth(&TABLE_1, k),
-        2 => nth(&TABLE_2, k),
-        3 => nth(&TABLE_3, k),
+        1 => in_a_row(0x80, 9, k),
+        2 => in_a_row(0x90, 9, k),
+        3 => in_a_row(0xA0, 9, k),
         _ => 0,
     }
 }

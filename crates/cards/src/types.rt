@@ -1,6 +1,8 @@
 // What the chips' pages and their callers speak of.
 ghost use mathlib.Core.Path.{_≡_};
+ghost use Prim.Native.Nat.{_+_, _≤_};
 ghost use lib.ListN.{getD};
+ghost use Rattle.cards.specs.Rows.{from};
 
 pub enum Chip {
     Nct7802y,
@@ -52,11 +54,12 @@ pub enum Fan {
     Nothing,
 }
 
-// The entry at a place, and 0 behind the last.
-pub(crate) fn nth(entries: &[usize], k: usize) -> usize
-    ensures { λ r. ⌜ r ≡ getD (now (entries .entry)) k 0 ⌝ }
+// The k-th of some registers that stand in a row, and 0 behind the last.
+pub(crate) fn in_a_row(first: usize, count: usize, k: usize) -> usize
+    requires { ⌜ first + count ≤ 256 ⌝ }
+    ensures { λ r. ⌜ r ≡ getD (from first count) k 0 ⌝ }
 {
-    if k < entries.len() { entries[k] } else { 0 }
+    if k < count { first + k } else { 0 }
 }
 
 // Behind the end of a card.
