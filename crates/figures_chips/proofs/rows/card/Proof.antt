@@ -1,5 +1,5 @@
 -- `rows::card` is safe and ends: the loop counts up to 255.
--- Assumes nothing.
+-- Assumes what libc promises of `write`: that it moves no more bytes than its buffer has.
 use borrow.Author.Needs.{needs}
 use Prim.Native.Nat.{_≤_, _-_}
 use Rattle.figures_chips.proofs.rows.card.Statement.{statement}

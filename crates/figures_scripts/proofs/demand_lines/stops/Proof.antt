@@ -1,5 +1,5 @@
 -- `demand_lines::stops` is safe and ends: the loop counts up to the number given.
--- Assumes nothing.
+-- Assumes what libc promises of `write`: that it moves no more bytes than its buffer has.
 use borrow.Author.Needs.{needs}
 use Prim.Native.Nat.{_≤_, _-_}
 use Rattle.figures_scripts.proofs.demand_lines.stops.Statement.{statement}
