@@ -1,4 +1,4 @@
--- "Plan record and script": a plan's body, its values "in the register order"; and the contracts of `bodies`.
+-- "Plan record and script": a plan's body, its values "in the register order".
 -- Assumes nothing.
 use Prim.Native.Nat.{ℕ}
 use mathlib.Core.List.{List, _++_}

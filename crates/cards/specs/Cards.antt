@@ -1,4 +1,4 @@
--- "The three parts and who decides": the chips, their numbers and their cards; and the contracts of `cards`.
+-- "The three parts and who decides": the chips, their numbers and their cards.
 -- Assumes nothing.
 use Prim.Native.Nat.{ℕ}
 use mathlib.Core.Bool.{Bool, true, false, cond, not}

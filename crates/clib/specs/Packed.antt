@@ -1,5 +1,4 @@
--- The one number that a call of the boundary answers, and what each call promises for every input: what the library's own call promises of
--- the same input, every byte of each lent buffer with it, and its answer packed.
+-- The one number that a call of the boundary answers: what the library's own answer tells, packed.
 -- Assumes nothing.
 use Prim.Native.Nat.{ℕ, _+_, _*_}
 use mathlib.Core.Path.{_≡_}

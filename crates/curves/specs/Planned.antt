@@ -1,4 +1,4 @@
--- "Plans and what they ask": a plan's curve, when its values are in order and what it asks of its chip; and the contracts of `curves`.
+-- "Plans and what they ask": a plan's curve, when its values are in order and what it asks of its chip.
 -- Assumes nothing.
 use Prim.Native.Nat.{ℕ}
 use mathlib.Core.Bool.{Bool, true, _&&_}

@@ -1,4 +1,4 @@
--- "Identity": when a chip is accepted as the owner of an image; and the contract of `identities`.
+-- "Identity": when an image is not confirmed to be a chip's.
 -- Assumes nothing.
 use Prim.Native.Nat.{ℕ}
 use mathlib.Core.Bool.{Bool, false, not}

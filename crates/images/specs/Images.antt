@@ -1,4 +1,4 @@
--- The calls on a lent image: their checks in the paper's order, what each answers, and which bytes stand there afterwards.
+-- "Byte writes, reads and resets check 3 and 8": the chip that an image of some length is asked of.
 -- Assumes nothing.
 use Prim.Native.Nat.{ℕ}
 use mathlib.Core.Bool.{cond}

@@ -1,4 +1,4 @@
--- "Plans and what they ask": which plans are accepted, what a plan and an image ask; and the contracts of `plans`.
+-- "Plans and what they ask": the curve that an image holds.
 -- Assumes nothing.
 use Prim.Native.Nat.{ℕ}
 use mathlib.Core.List.{List}

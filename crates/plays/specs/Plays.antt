@@ -1,4 +1,4 @@
--- Playing a plan's script on an image: what is checked, how many writes are made, and which bytes stand there afterwards.
+-- Playing a plan's script on an image: which bytes stand there afterwards.
 -- Assumes nothing.
 use Prim.Native.Nat.{ℕ}
 use mathlib.Core.Path.{_≡_}

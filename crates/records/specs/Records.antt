@@ -1,4 +1,4 @@
--- "Plan record and script": what a plan's record is, what its reader and its writer check and answer; and the contracts of `records`.
+-- "Plan record and script": what a plan's record is, and what plan stands in one.
 -- Assumes nothing.
 use Prim.Native.Nat.{ℕ, _+_}
 use mathlib.Core.List.{List, [], _∷_, _++_}

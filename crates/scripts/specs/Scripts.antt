@@ -1,4 +1,4 @@
--- "Plan record and script": a plan's byte writes; and the contract of `scripts`.
+-- "Plan record and script": a plan's byte writes.
 -- Assumes nothing.
 use Prim.Native.Nat.{ℕ, zero, suc, _+_, _*_}
 use mathlib.Core.List.{List, [], _∷_, _++_}

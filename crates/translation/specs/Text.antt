@@ -1,4 +1,4 @@
--- "Plan record and script", the program: the text of a whole input; and the contract of `translation`.
+-- "Plan record and script", the program: the text of a whole input.
 -- Assumes nothing.
 use Prim.Native.Nat.{ℕ, zero, suc, _+_}
 use Prim.Native.String.{String}
