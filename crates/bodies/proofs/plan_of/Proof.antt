@@ -10,14 +10,12 @@ enum-told c = search needs
 slope-in-requires : tie.Need-slope-in-requires
 slope-in-requires c κs = search needs
 
--- /tmp/h/nest/main/target/rlib/curves.rlib/interface/lang/src/lib.rt:7:65
 enum-told-2 : tie.Need-enum-told-2
 enum-told-2 c = search needs
 
 steps-in-requires : tie.Need-steps-in-requires
 steps-in-requires c κs = search needs
 
--- /tmp/h/nest/main/target/rlib/curves.rlib/interface/lang/src/lib.rt:7:65
 enum-told-3 : tie.Need-enum-told-3
 enum-told-3 c = search needs
 
