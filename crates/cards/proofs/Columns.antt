@@ -1,11 +1,11 @@
--- A column has a number for each position, that of the position; and a register's masks are what the card's columns hold at its position.
+-- A column has a number for each position, that of the position; and a register's masks go by the card's columns.
 -- Assumes nothing.
 use Prim.Native.Nat.{ℕ, zero, suc, _+_, _≤_, _<_}
 use native.Mathlib.Nat.{add-zero, zero-add, add-suc, suc-add, le-of-suc-le-suc, not-suc-le-zero}
 use mathlib.Core.Path.{_≡_, refl, sym, ap, _∙_}
 use mathlib.Core.List.{List, _∷_}
 use lib.ListN.{length, getD, take}
-use Rattle.cards.specs.Rows.{Line, Row, row, masksIn, rowIn, eachFrom, column}
+use Rattle.cards.specs.Rows.{Line, row, masksIn, rowIn, eachFrom, column}
 
 pub run-length : (f : ℕ → ℕ) (first n : ℕ) → length (eachFrom f first n) ≡ n
 run-length f first zero = refl
@@ -35,11 +35,7 @@ pub column-front : (m n : ℕ) (f : ℕ → ℕ) → n ≤ m → take n (column 
 unfolding column
 column-front m n f h = run-front f 0 m n h
 
--- a card's column of masks
-abbrev pub columnOf : ℕ → (Row → ℕ) → List Line → List ℕ
-columnOf n part lines = column n (λ position. part (rowIn lines position))
-
-pub masks-of-columns : (n : ℕ) (lines : List Line) (position : ℕ) → position < n
-    → masksIn (row (getD (columnOf n (λ r. r .writable) lines) position 0) (getD (columnOf n (λ r. r .clears) lines) position 0) 0) ≡ masksIn (rowIn lines position)
-masks-of-columns n lines position h =
-    rw (column-at n (λ p. rowIn lines p .writable) position h, column-at n (λ p. rowIn lines p .clears) position h)
+-- a register's masks: what the card's column of writable bits holds at its position, and its bits that clear on one
+pub masks-of-column : (n : ℕ) (lines : List Line) (position clears : ℕ) → position < n → clears ≡ rowIn lines position .clears
+    → masksIn (row (getD (column n (λ p. rowIn lines p .writable)) position 0) clears 0) ≡ masksIn (rowIn lines position)
+masks-of-column n lines position clears h e = rw (column-at n (λ p. rowIn lines p .writable) position h, e)

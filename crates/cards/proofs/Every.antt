@@ -1,18 +1,14 @@
--- A test computed once over a list, carried to each entry; and lists of distinct numbers: by induction over the list.
+-- A test computed once over a list, carried to each entry; what a mapped list holds; and lists of distinct numbers: by induction over the list.
 -- Assumes nothing.
 use Prim.Native.Nat.{ℕ, zero, suc, _<_}
 use native.Mathlib.Nat.{le-of-suc-le-suc, not-suc-le-zero}
 use mathlib.Core.Path.{_≡_, refl, sym, ap}
 use mathlib.Core.Bool.{Bool, true, So, not, _&&_, and-eq-true-iff}
-use mathlib.Core.List.{List, [], _∷_}
+use mathlib.Core.List.{List, [], _∷_, map}
 use borrow.Author.Tests.{eqb-false, not-true}
 use lib.Dec.{eqb}
 use lib.ListN.{length, getD}
-
--- a test that holds of every entry
-abbrev pub every : {A : Type 0} → (A → Bool) → List A → Bool
-every test [] = true
-every test (a ∷ l) = test a && every test l
+use Rattle.cards.specs.Rows.{every}
 
 pub both : (a b : Bool) → So (a && b) → So a × So b
 both a b t = and-eq-true-iff a b .0 t
@@ -28,6 +24,12 @@ pub everywhere : {A : Type 0} (test : A → Bool) (l : List A) (other : A) → S
 everywhere test [] other o t k = o
 everywhere test (a ∷ l) other o t zero = both (test a) (every test l) t .0
 everywhere test (a ∷ l) other o t (suc k) = everywhere test l other o (both (test a) (every test l) t .1) k
+
+-- what a mapped list holds at a place
+pub map-at : {A B : Type 0} (f : A → B) (l : List A) (other : A) (none : B) (k : ℕ) → k < length l → getD (map f l) k none ≡ f (getD l k other)
+map-at f [] other none k h = absurd (not-suc-le-zero h)
+map-at f (a ∷ l) other none zero h = refl
+map-at f (a ∷ l) other none (suc k) h = map-at f l other none k (le-of-suc-le-suc h)
 
 abbrev pub distinct : List ℕ → Bool
 distinct [] = true

@@ -1,5 +1,6 @@
 pub mod Columns
 pub mod Every
+pub mod Carried
 pub mod Sound
 pub mod Apart
 pub mod Lines

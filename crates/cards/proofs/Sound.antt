@@ -3,7 +3,7 @@
 use Prim.Native.Nat.{ℕ, suc, _^_, _≤_, _<_}
 use native.Mathlib.Omega.{arith}
 use mathlib.Core.Path.{refl}
-use mathlib.Core.Bool.{Bool, true, false, So, _&&_}
+use mathlib.Core.Bool.{Bool, true, false, So, not, _&&_}
 use mathlib.Core.List.{List, [], _∷_}
 use borrow.Author.Tests.{leb-true}
 use lib.Bits.{bitAnd}
@@ -14,14 +14,14 @@ use Rattle.cards.specs.declared.types.Chip.the-variants.{Nct7802y, F7537
 use Rattle.cards.specs.declared.types.Required.{Required}
 use Rattle.cards.specs.declared.types.Shape.{Shape}
 use Rattle.cards.specs.declared.types.Shape.the-variants.{Slope, Steps}
-use Rattle.cards.specs.Rows.{Line, Row, Table, positions, rowIn, column}
-use Rattle.cards.specs.Sheets.{Sheet, powerOnIn, tableIn}
+use Rattle.cards.specs.Rows.{every, Line, Row, Table, positions, rowIn, column}
+use Rattle.cards.specs.Sheets.{greatest, Sheet, powerOnIn, tableIn, room, wholeIn}
 use Rattle.cards.specs.Cards.{sheetOf}
 use Rattle.cards.specs.Identity.{allHold}
 use Rattle.cards.specs.Nct7802y as nct7802y
 use Rattle.cards.specs.F75373s as f75373s
 use Rattle.cards.specs.Nct80 as nct80
-use Rattle.cards.proofs.Every.{every, of-every, distinct}
+use Rattle.cards.proofs.Every.{of-every, distinct}
 
 -- addresses rise from a least one on, and are those of an image
 abbrev pub rising : ℕ → ℕ → List Line → Bool
@@ -32,6 +32,10 @@ rising size least (l ∷ ls) = leb least (l .0) && (ltb (l .0) size && rising si
 abbrev pub disjoint : Line → Bool
 disjoint l = eqb (bitAnd (l .1) (l .2)) 0
 
+-- and each is a byte
+abbrev pub narrow : Line → Bool
+narrow l = ltb (l .1) (2 ^ 8) && ltb (l .2) (2 ^ 8)
+
 -- none of these bits of a register may change, and they are bits of a byte
 abbrev pub fixed : Row → ℕ → Bool
 fixed row bits = ltb bits (2 ^ 8) && (eqb (bitAnd (row .writable) bits) 0 && eqb (bitAnd (row .clears) bits) 0)
@@ -40,13 +44,31 @@ fixed row bits = ltb bits (2 ^ 8) && (eqb (bitAnd (row .writable) bits) 0 && eqb
 abbrev pub lasting : Sheet → Required → Bool
 lasting sheet r = ltb (r .position) (sheet .size) && fixed (rowIn (sheet .card) (r .position)) (r .bits)
 
--- "All fan table registers have mask FFh", and each is inside the image
-abbrev pub free : Sheet → ℕ → Bool
-free sheet position = eqb (rowIn (sheet .card) position .writable) 0xFF && ltb position (sheet .size)
+-- the positions that the bus reaches
+abbrev pub reached : ℕ → Bool
+reached position = ltb position (2 ^ 8)
+
+-- a fan table's register is inside the image, where the bus reaches it
+abbrev pub stands : Sheet → ℕ → Bool
+stands sheet position = ltb position (sheet .size) && reached position
+
+-- what a speed's register takes: of a slope the full duty, and nothing above it
+abbrev pub reaches : Shape → ℕ → Bool
+reaches (Slope full) mask = eqb mask full
+reaches Steps mask = true
+
+abbrev pub reachesAt : Sheet → Shape → ℕ → Bool
+reachesAt sheet shape position = reaches shape (rowIn (sheet .card) position .writable)
 
 -- no two registers of a table in one place, and no more of them than the longest body has bytes
 abbrev pub separate : Sheet → Table → Bool
-separate sheet table = every (free sheet) (positions table) && (distinct (positions table) && leb (length (positions table)) 14)
+separate sheet table =
+    every (stands sheet) (positions table)
+    && (distinct (positions table) && (leb (length (positions table)) 14 && every (reachesAt sheet (table .shape)) (table .speeds)))
+
+-- a table is as long as its curve
+abbrev pub sized : Table → Bool
+sized table = eqb (length (table .settings)) (room (table .shape) .0) && eqb (length (table .speeds)) (room (table .shape) .1)
 
 -- one kind of curve
 abbrev pub ofShape : Shape → Shape → Bool
@@ -55,21 +77,28 @@ ofShape (Slope full) Steps = false
 ofShape Steps (Slope other) = false
 ofShape Steps Steps = true
 
+abbrev pub both-or-neither : Bool → Bool → Bool
+both-or-neither true other = other
+both-or-neither false other = not other
+
 -- a table is laid out as another
-abbrev pub alike : Table → Table → Bool
-alike other table =
+abbrev pub alike : List Line → Table → Table → Bool
+alike card other table =
     ofShape (table .shape) (other .shape)
-    && (eqb (length (table .settings)) (length (other .settings)) && eqb (length (table .speeds)) (length (other .speeds)))
+    && (eqb (length (table .settings)) (length (other .settings))
+    && (eqb (length (table .speeds)) (length (other .speeds)) && both-or-neither (wholeIn card table) (wholeIn card other)))
 
 abbrev tests : Sheet → List Bool
 tests sheet =
-    leb (sheet .size) 256
+    leb (sheet .size) greatest
     ∷ rising (sheet .size) 0x00 (sheet .card)
     ∷ every disjoint (sheet .card)
+    ∷ every narrow (sheet .card)
     ∷ every (lasting sheet) (sheet .identity)
     ∷ allHold (powerOnIn sheet) (sheet .identity)
     ∷ every (separate sheet) (sheet .tables)
-    ∷ every (alike (tableIn (sheet .tables) 1)) (sheet .tables)
+    ∷ every sized (sheet .tables)
+    ∷ every (alike (sheet .card) (tableIn (sheet .tables) 1)) (sheet .tables)
     ∷ []
 
 unfoldable pub sound : Sheet → Bool
@@ -77,31 +106,35 @@ sound sheet = every (λ test. test) (tests sheet)
 
 pub record Sound (sheet : Sheet) : Type 0 where
   -- no image is longer than the one that a reset fills
-  pub size : sheet .size ≤ 256
+  pub size : sheet .size ≤ greatest
   pub lines : So (rising (sheet .size) 0x00 (sheet .card))
   pub masks : So (every disjoint (sheet .card))
+  pub bytes : So (every narrow (sheet .card))
   pub identity : So (every (lasting sheet) (sheet .identity))
   -- a reset image is the chip's
   pub starts : So (allHold (powerOnIn sheet) (sheet .identity))
   pub tables : So (every (separate sheet) (sheet .tables))
+  pub sizes : So (every sized (sheet .tables))
   -- what each chip's module counts on, which has one layout for its tables
-  pub rows : So (every (alike (tableIn (sheet .tables) 1)) (sheet .tables))
+  pub rows : So (every (alike (sheet .card) (tableIn (sheet .tables) 1)) (sheet .tables))
 
 module _ (sheet : Sheet) (t : So (sound sheet)) where
-  part : (k : ℕ) → k < 7 → So (getD (tests sheet) k true)
+  part : (k : ℕ) → k < 9 → So (getD (tests sheet) k true)
   unfolding sound
   part k h = of-every (λ test. test) (tests sheet) true t k h
 
   pub passes : Sound sheet
   passes =
       record {
-        size = leb-true (sheet .size) 256 (part 0 (omega arith));
+        size = leb-true (sheet .size) greatest (part 0 (omega arith));
         lines = part 1 (omega arith);
         masks = part 2 (omega arith);
-        identity = part 3 (omega arith);
-        starts = part 4 (omega arith);
-        tables = part 5 (omega arith);
-        rows = part 6 (omega arith);
+        bytes = part 3 (omega arith);
+        identity = part 4 (omega arith);
+        starts = part 5 (omega arith);
+        tables = part 6 (omega arith);
+        sizes = part 7 (omega arith);
+        rows = part 8 (omega arith);
       }
 
 -- the only law that goes by the chip

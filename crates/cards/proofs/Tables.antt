@@ -1,11 +1,14 @@
--- "All fan table registers have mask FFh", and a table's registers are distinct addresses: of any page that passes its test, carried to each position.
+-- The registers of a fan table are distinct positions that the bus reaches, and a speed's takes the full duty: of any page that passes its test, carried
+-- to each register; and what the answers of `table_of` and `register_of` tell of them.
 -- Assumes nothing.
-use Prim.Native.Nat.{ℕ, zero, suc, _≤_, _<_}
+use Prim.Native.Nat.{ℕ, zero, suc, _^_, _≤_, _<_}
+use native.Mathlib.Nat.{mod-eq-of-lt}
 use native.Mathlib.Omega.{arith}
-use mathlib.Core.Path.{_≡_, refl, sym, ap, _∙_}
+use mathlib.Core.Path.{_≡_, refl, sym, ap, subst, _∙_}
 use mathlib.Core.Bool.{Bool, true, false, So, cond, true≢false, _&&_}
-use mathlib.Core.List.{List, [], _∷_}
+use mathlib.Core.List.{List, [], _∷_, map}
 use borrow.Author.Tests.{eqb-true, ltb-true, leb-true, le-leb}
+use lib.Bits.{bitAnd, and-mask}
 use lib.Dec.{eqb, leb, ltb}
 use lib.ListN.{length, getD, List·getD-eq-default}
 use Rattle.cards.specs.declared.types.Chip.{Chip}
@@ -14,12 +17,12 @@ use Rattle.cards.specs.declared.types.Shape.the-variants.{Slope, Steps}
 use Rattle.cards.specs.declared.types.Layout.{Layout}
 use Rattle.cards.specs.declared.types.Fan.{Fan}
 use Rattle.cards.specs.declared.types.Fan.the-variants.{Laid, Nothing}
-use Rattle.cards.specs.Rows.{Table, positions, rowIn}
-use Rattle.cards.specs.Sheets.{Sheet, missing, hasTableIn, tableIn, layout, laidIn, registerIn}
-use Rattle.cards.specs.Cards.{sheetOf, sizeOf, rowOf, tablesOf, hasTable, tableOf}
+use Rattle.cards.specs.Rows.{every, Line, Table, positions, rowIn, registerAt, noRegister}
+use Rattle.cards.specs.Sheets.{Sheet, missing, room, hasTableIn, tableIn, wholeIn, layout, laidIn, registerIn}
+use Rattle.cards.specs.Cards.{sheetOf, cardOf, sizeOf, rowOf, tablesOf, hasTable, tableOf, shapeOf}
 use Rattle.cards.specs.Contracts.{Lays}
-use Rattle.cards.proofs.Every.{every, both, of-every, everywhere, distinct, apart}
-use Rattle.cards.proofs.Sound.{free, separate, ofShape, alike, Sound, sound-sheet}
+use Rattle.cards.proofs.Every.{both, of-every, everywhere, map-at, distinct, apart}
+use Rattle.cards.proofs.Sound.{reached, stands, reaches, reachesAt, separate, sized, ofShape, both-or-neither, alike, Sound, sound-sheet}
 
 -- tables have the numbers from 1 on
 numbered : (tables : List Table) (number : ℕ) → So (hasTableIn tables number) → (1 ≤ number) × (number ≤ length tables)
@@ -38,12 +41,20 @@ no-number number count h =
     neither (leb 1 number) (leb number count) (λ p q. h (leb-true 1 number p) (leb-true number count q))
 
 -- where there is no table, there is no register
-pub no-register : (tables : List Table) (number k : ℕ) → (1 ≤ number → number ≤ length tables → ⊥) → registerIn tables number k ≡ 0
-no-register tables zero k h = refl
-no-register tables (suc n) k h = ap (λ (t : Table). getD (positions t) k 0) (List·getD-eq-default tables missing (beyond (h (omega arith))))
+pub no-register : (sheet : Sheet) (number k : ℕ) → (1 ≤ number → number ≤ length (sheet .tables) → ⊥) → registerIn sheet number k ≡ noRegister
+no-register sheet zero k h = refl
+no-register sheet (suc n) k h =
+    ap (λ (t : Table). getD (map (registerAt (sheet .card)) (positions t)) k noRegister)
+    (List·getD-eq-default (sheet .tables) missing (beyond (h (omega arith))))
   where
-    beyond : (suc n ≤ length tables → ⊥) → length tables ≤ n
+    beyond : (suc n ≤ length (sheet .tables) → ⊥) → length (sheet .tables) ≤ n
     beyond f = omega (arith, f)
+
+-- the registers at some positions stand there, and what stands in behind the last is at 0
+position-among : (card : List Line) (ps : List ℕ) (k : ℕ) → getD (map (registerAt card) ps) k noRegister .position ≡ getD ps k 0
+position-among card [] k = refl
+position-among card (p ∷ ps) zero = refl
+position-among card (p ∷ ps) (suc k) = position-among card ps k
 
 one-shape : (a b : Shape) → So (ofShape a b) → a ≡ b
 one-shape (Slope full) (Slope other) t = ap Slope (eqb-true full other t)
@@ -51,15 +62,23 @@ one-shape (Slope full) Steps t = absurd (true≢false (sym t))
 one-shape Steps (Slope other) t = absurd (true≢false (sym t))
 one-shape Steps Steps t = refl
 
+one-answer : (a b : Bool) → So (both-or-neither a b) → a ≡ b
+one-answer true true t = refl
+one-answer true false t = absurd (true≢false (sym t))
+one-answer false true t = absurd (true≢false (sym t))
+one-answer false false t = refl
+
 -- a table that is like another is laid out as it
-laid-alike : (other table : Table) → So (alike other table) → layout table ≡ layout other
-laid-alike other table t =
+laid-alike : (card : List Line) (other table : Table) → So (alike card other table) → layout card table ≡ layout card other
+laid-alike card other table t =
     let shape = both (ofShape (table .shape) (other .shape)) _ t in
-    let long = both (eqb (length (table .settings)) (length (other .settings))) _ (shape .1) in
+    let settings = both (eqb (length (table .settings)) (length (other .settings))) _ (shape .1) in
+    let speeds = both (eqb (length (table .speeds)) (length (other .speeds))) _ (settings .1) in
     (λ i. record {
-      settings = eqb-true (length (table .settings)) (length (other .settings)) (long .0) i;
-      speeds = eqb-true (length (table .speeds)) (length (other .speeds)) (long .1) i;
+      settings = eqb-true (length (table .settings)) (length (other .settings)) (settings .0) i;
+      speeds = eqb-true (length (table .speeds)) (length (other .speeds)) (speeds .0) i;
       shape = one-shape (table .shape) (other .shape) (shape .0) i;
+      whole = one-answer (wholeIn card table) (wholeIn card other) (speeds .1) i;
     })
 
 -- of any page that passes, and any number: a table that is missing has no register to speak of
@@ -67,87 +86,130 @@ module _ (sheet : Sheet) (S : Sound sheet) (number : ℕ) where
   abbrev table : Table
   table = tableIn (sheet .tables) number
 
-  tested-table : So (every (free sheet) (positions table)) × So (distinct (positions table) && leb (length (positions table)) 14)
-  tested-table = both (every (free sheet) (positions table)) _ (everywhere (separate sheet) (missing ∷ sheet .tables) missing refl (S .tables) number)
+  tested-table : So (separate sheet table)
+  tested-table = everywhere (separate sheet) (missing ∷ sheet .tables) missing refl (S .tables) number
+
+  all-stand : So (every (stands sheet) (positions table))
+  all-stand = both (every (stands sheet) (positions table)) _ tested-table .0
+
+  beside : So (distinct (positions table)) × So (leb (length (positions table)) 14 && every (reachesAt sheet (table .shape)) (table .speeds))
+  beside = both (distinct (positions table)) _ (both (every (stands sheet) (positions table)) _ tested-table .1)
 
   sheet-distinct : (j k : ℕ) → j < length (positions table) → k < length (positions table) → getD (positions table) j 0 ≡ getD (positions table) k 0 → j ≡ k
-  sheet-distinct = apart (positions table) (both (distinct (positions table)) _ (tested-table .1) .0)
+  sheet-distinct = apart (positions table) (beside .0)
 
   sheet-short : length (positions table) ≤ 14
-  sheet-short = leb-true (length (positions table)) 14 (both (distinct (positions table)) _ (tested-table .1) .1)
+  sheet-short = leb-true (length (positions table)) 14 (both (leb (length (positions table)) 14) _ (beside .1) .0)
 
-  sheet-byte : (k : ℕ) → getD (positions table) k 0 < 256
-  sheet-byte = within (positions table) (tested-table .0)
+  sheet-reaches : (k : ℕ) → k < length (table .speeds) → So (reaches (table .shape) (rowIn (sheet .card) (getD (table .speeds) k 0) .writable))
+  sheet-reaches = of-every (reachesAt sheet (table .shape)) (table .speeds) 0 (both (leb (length (positions table)) 14) _ (beside .1) .1)
+
+  sheet-stands : (k : ℕ) → k < length (positions table) → (getD (positions table) k 0 < sheet .size) × So (reached (getD (positions table) k 0))
+  sheet-stands k h =
+      let position = getD (positions table) k 0 in
+      let parts = both (ltb position (sheet .size)) _ (of-every (stands sheet) (positions table) 0 all-stand k h) in
+      (ltb-true position (sheet .size) (parts .0), parts .1)
+
+  -- what stands in behind the last is reached as well
+  sheet-reached : (k : ℕ) → So (reached (getD (positions table) k 0))
+  sheet-reached = everywhere reached (positions table) 0 refl (only (positions table) all-stand)
     where
-      within : (ps : List ℕ) → So (every (free sheet) ps) → (k : ℕ) → getD ps k 0 < 256
-      within [] t k = omega arith
-      within (p ∷ ps) t zero =
-          let free-p = both (free sheet p) _ t .0 in
-          omega (arith, ltb-true p (sheet .size) (both (eqb (rowIn (sheet .card) p .writable) 0xFF) _ free-p .1), S .size)
-      within (p ∷ ps) t (suc k) = within ps (both (free sheet p) _ t .1) k
-
-  module _ (k : ℕ) (h : k < length (positions table)) where
-    abbrev position : ℕ
-    position = getD (positions table) k 0
-
-    tested-position : So (eqb (rowIn (sheet .card) position .writable) 0xFF) × So (ltb position (sheet .size))
-    tested-position =
-        both (eqb (rowIn (sheet .card) position .writable) 0xFF) _ (of-every (free sheet) (positions table) 0 (tested-table .0) k h)
-
-    sheet-mask : rowIn (sheet .card) position .writable ≡ 0xFF
-    sheet-mask = eqb-true (rowIn (sheet .card) position .writable) 0xFF (tested-position .0)
-
-    sheet-within : position < sheet .size
-    sheet-within = ltb-true position (sheet .size) (tested-position .1)
+      only : (ps : List ℕ) → So (every (stands sheet) ps) → So (every reached ps)
+      only [] t = refl
+      only (p ∷ ps) t =
+          let parts = both (stands sheet p) _ t in
+          rw (both (ltb p (sheet .size)) (reached p) (parts .0) .1, only ps (parts .1))
 
 -- of a table that it has
 module _ (sheet : Sheet) (S : Sound sheet) (number : ℕ) (has : So (hasTableIn (sheet .tables) number)) where
-  alike-first : So (alike (tableIn (sheet .tables) 1) (tableIn (sheet .tables) number))
-  alike-first = by-number number (numbered (sheet .tables) number has)
+  of-tables : (test : Table → Bool) → So (every test (sheet .tables)) → So (test (tableIn (sheet .tables) number))
+  of-tables test t = by-number number (numbered (sheet .tables) number has)
     where
-      by-number : (n : ℕ) → (1 ≤ n) × (n ≤ length (sheet .tables)) → So (alike (tableIn (sheet .tables) 1) (tableIn (sheet .tables) n))
+      by-number : (n : ℕ) → (1 ≤ n) × (n ≤ length (sheet .tables)) → So (test (tableIn (sheet .tables) n))
       by-number zero h = absurd (omega (arith, h .0))
-      by-number (suc n) h = of-every (alike (tableIn (sheet .tables) 1)) (sheet .tables) missing (S .rows) n (h .1)
+      by-number (suc n) h = of-every test (sheet .tables) missing t n (h .1)
 
-  sheet-laid : layout (tableIn (sheet .tables) number) ≡ layout (tableIn (sheet .tables) 1)
-  sheet-laid = laid-alike (tableIn (sheet .tables) 1) (tableIn (sheet .tables) number) alike-first
+  sheet-laid : layout (sheet .card) (tableIn (sheet .tables) number) ≡ layout (sheet .card) (tableIn (sheet .tables) 1)
+  sheet-laid =
+      laid-alike (sheet .card) (tableIn (sheet .tables) 1) (tableIn (sheet .tables) number)
+      (of-tables (alike (sheet .card) (tableIn (sheet .tables) 1)) (S .rows))
+
+  sheet-sized : (length (tableIn (sheet .tables) number .settings) ≡ room (tableIn (sheet .tables) number .shape) .0)
+      × (length (tableIn (sheet .tables) number .speeds) ≡ room (tableIn (sheet .tables) number .shape) .1)
+  sheet-sized =
+      let table = tableIn (sheet .tables) number in
+      let parts = both (eqb (length (table .settings)) (room (table .shape) .0)) _ (of-tables sized (S .sizes)) in (
+        eqb-true (length (table .settings)) (room (table .shape) .0) (parts .0),
+        eqb-true (length (table .speeds)) (room (table .shape) .1) (parts .1),
+      )
 
 module _ (chip : Chip) (number : ℕ) where
   -- no more registers than the longest body has bytes
   pub table-short : length (positions (tableOf chip number)) ≤ 14
   table-short = sheet-short (sheetOf chip) (sound-sheet chip) number
 
-  -- a register is a byte's address, and so is what stands in where there is none
-  pub register-byte : (k : ℕ) → registerIn (tablesOf chip) number k < 256
-  register-byte = sheet-byte (sheetOf chip) (sound-sheet chip) number
-
-module _ (chip : Chip) (number : ℕ) (has : So (hasTable chip number)) where
-  pub table-number : (1 ≤ number) × (number ≤ length (tablesOf chip))
-  table-number = numbered (tablesOf chip) number has
-
-  -- "All fan table registers have mask FFh"
-  pub table-mask : (k : ℕ) → k < length (positions (tableOf chip number)) → rowOf chip (getD (positions (tableOf chip number)) k 0) .writable ≡ 0xFF
-  unfolding rowOf
-  table-mask k h = sheet-mask (sheetOf chip) (sound-sheet chip) number k h
-
+  -- each is inside the image, where the bus reaches it
   pub table-within : (k : ℕ) → k < length (positions (tableOf chip number)) → getD (positions (tableOf chip number)) k 0 < sizeOf chip
-  table-within k h = sheet-within (sheetOf chip) (sound-sheet chip) number k h
+  table-within k h = sheet-stands (sheetOf chip) (sound-sheet chip) number k h .0
+
+  pub table-reached : (k : ℕ) → getD (positions (tableOf chip number)) k 0 < 2 ^ 8
+  table-reached k = ltb-true (getD (positions (tableOf chip number)) k 0) (2 ^ 8) (sheet-reached (sheetOf chip) (sound-sheet chip) number k)
 
   -- no two registers of a table share a position
   pub table-distinct : (j k : ℕ) → j < length (positions (tableOf chip number)) → k < length (positions (tableOf chip number))
       → getD (positions (tableOf chip number)) j 0 ≡ getD (positions (tableOf chip number)) k 0 → j ≡ k
   table-distinct = sheet-distinct (sheetOf chip) (sound-sheet chip) number
 
+  -- a speed's register takes the full duty, and nothing above it
+  pub table-reaches : (k : ℕ) → k < length (tableOf chip number .speeds)
+      → So (reaches (shapeOf chip number) (rowOf chip (getD (tableOf chip number .speeds) k 0) .writable))
+  unfolding rowOf
+  table-reaches k h = sheet-reaches (sheetOf chip) (sound-sheet chip) number k h
+
+  -- what `register_of` tells: each register with its own masks ..
+  pub register-at : (k : ℕ) → k < length (positions (tableOf chip number))
+      → registerIn (sheetOf chip) number k ≡ registerAt (cardOf chip) (getD (positions (tableOf chip number)) k 0)
+  register-at = map-at (registerAt (cardOf chip)) (positions (tableOf chip number)) 0 noRegister
+
+  -- .. at its position, and 0 where there is none
+  pub register-position : (k : ℕ) → registerIn (sheetOf chip) number k .position ≡ getD (positions (tableOf chip number)) k 0
+  register-position k = position-among (cardOf chip) (positions (tableOf chip number)) k
+
+  pub register-byte : (k : ℕ) → registerIn (sheetOf chip) number k .position < 256
+  register-byte k = subst (λ (p : ℕ). p < 256) (sym (register-position k)) (table-reached k)
+
+  -- where every register takes every bit
+  pub whole-mask : layout (cardOf chip) (tableOf chip number) .whole ≡ true → (k : ℕ) → k < length (positions (tableOf chip number))
+      → rowOf chip (getD (positions (tableOf chip number)) k 0) .writable ≡ 0xFF
+  unfolding rowOf
+  whole-mask t k h =
+      eqb-true (rowIn (cardOf chip) (getD (positions (tableOf chip number)) k 0) .writable) 0xFF
+      (of-every (λ p. eqb (rowIn (cardOf chip) p .writable) 0xFF) (positions (tableOf chip number)) 0 t k h)
+
+-- there each byte fits
+pub byte-fits : (value : ℕ) → value < 2 ^ 8 → bitAnd value 0xFF ≡ value
+byte-fits value h = and-mask value 8 ∙ mod-eq-of-lt h
+
+module _ (chip : Chip) (number : ℕ) (has : So (hasTable chip number)) where
+  pub table-number : (1 ≤ number) × (number ≤ length (tablesOf chip))
+  table-number = numbered (tablesOf chip) number has
+
+  -- a table is as long as its curve
+  pub table-sized : (length (tableOf chip number .settings) ≡ room (shapeOf chip number) .0)
+      × (length (tableOf chip number .speeds) ≡ room (shapeOf chip number) .1)
+  table-sized = sheet-sized (sheetOf chip) (sound-sheet chip) number has
+
   -- a chip's tables are laid out alike
-  pub table-laid : layout (tableOf chip number) ≡ layout (tableOf chip 1)
+  pub table-laid : layout (cardOf chip) (tableOf chip number) ≡ layout (cardOf chip) (tableOf chip 1)
   table-laid = sheet-laid (sheetOf chip) (sound-sheet chip) number has
 
 -- what the first table's layout says of every number that the chip has
-pub laid-first : (chip : Chip) (number : ℕ) → 1 ≤ number → number ≤ length (tablesOf chip) → Laid (layout (tableOf chip 1)) ≡ laidIn (tablesOf chip) number
+pub laid-first : (chip : Chip) (number : ℕ) → 1 ≤ number → number ≤ length (tablesOf chip)
+    → Laid (layout (cardOf chip) (tableOf chip 1)) ≡ laidIn (sheetOf chip) number
 laid-first chip number h l =
     let has : So (hasTable chip number) = rw (le-leb 1 number h, le-leb number (length (tablesOf chip)) l) in
     ap Laid (sym (table-laid chip number has))
-    ∙ ap (λ (b : Bool). cond b (Laid (layout (tableOf chip number))) Nothing) (sym has)
+    ∙ ap (λ (b : Bool). cond b (Laid (layout (cardOf chip) (tableOf chip number))) Nothing) (sym has)
 
 -- what an answer tells of the table
 fan-laid : (has : Bool) (a b : Layout) → cond has (Laid a) Nothing ≡ Laid b → (has ≡ true) × (b ≡ a)
@@ -159,8 +221,8 @@ no-fan true a e = let z : _≡_ {A = ℕ} 0 1 = cc in absurd (omega arith)
 no-fan false a e = refl
 
 pub table-found : {chip : Chip} {number : ℕ} {fan : Fan} (facts : Layout) → Lays chip number fan → fan ≡ Laid facts
-    → (hasTable chip number ≡ true) × (facts ≡ layout (tableOf chip number))
-table-found {chip} {number} facts p e = fan-laid (hasTable chip number) (layout (tableOf chip number)) facts (sym (p .answer) ∙ e)
+    → (hasTable chip number ≡ true) × (facts ≡ layout (cardOf chip) (tableOf chip number))
+table-found {chip} {number} facts p e = fan-laid (hasTable chip number) (layout (cardOf chip) (tableOf chip number)) facts (sym (p .answer) ∙ e)
 
 pub table-missed : {chip : Chip} {number : ℕ} {fan : Fan} → Lays chip number fan → fan ≡ Nothing → hasTable chip number ≡ false
-table-missed {chip} {number} p e = no-fan (hasTable chip number) (layout (tableOf chip number)) (sym (p .answer) ∙ e)
+table-missed {chip} {number} p e = no-fan (hasTable chip number) (layout (cardOf chip) (tableOf chip number)) (sym (p .answer) ∙ e)

@@ -3,6 +3,7 @@
 use Prim.Native.Nat.{ℕ}
 use mathlib.Core.Path.{_≡_, refl, sym, ap, _∙_}
 use mathlib.Core.Bool.{Bool, true, false, cond}
+use mathlib.Core.List.{[]}
 use Rattle.cards.specs.declared.types.Chip.{Chip}
 use Rattle.cards.specs.declared.types.Named.{Named}
 use Rattle.cards.specs.declared.types.Named.the-variants.{Known, Unknown}
@@ -10,7 +11,7 @@ use Rattle.cards.specs.declared.types.Fan.{Fan}
 use Rattle.cards.specs.declared.types.Fan.the-variants.{Laid, Nothing}
 use Rattle.cards.specs.declared.types.Layout.{Layout}
 use Rattle.cards.specs.Sheets.{missing, layout}
-use Rattle.cards.specs.Cards.{chipOf, whenKnown, unknown, hasTable, tableOf, tellsNamed, tellsFan}
+use Rattle.cards.specs.Cards.{cardOf, chipOf, whenKnown, unknown, hasTable, tableOf, tellsNamed, tellsFan}
 use Rattle.cards.specs.Contracts.{Names, Lays}
 use Rattle.cards.proofs.Numbers.{chip-number}
 
@@ -24,9 +25,9 @@ names-told {number} p = ap tellsNamed (p .answer) ∙ by-name (chipOf number) re
 
 -- 0 and the layout of the table where the chip has it, else 4 and that of none
 pub lays-told : {chip : Chip} {number : ℕ} {r : Fan} → Lays chip number r
-    → tellsFan r ≡ cond (hasTable chip number) (0, layout (tableOf chip number)) (4, layout missing)
-lays-told {chip} {number} p = ap tellsFan (p .answer) ∙ by-table (hasTable chip number) (layout (tableOf chip number))
+    → tellsFan r ≡ cond (hasTable chip number) (0, layout (cardOf chip) (tableOf chip number)) (4, layout [] missing)
+lays-told {chip} {number} p = ap tellsFan (p .answer) ∙ by-table (hasTable chip number) (layout (cardOf chip) (tableOf chip number))
   where
-    by-table : (has : Bool) (facts : Layout) → tellsFan (cond has (Laid facts) Nothing) ≡ cond has (0, facts) (4, layout missing)
+    by-table : (has : Bool) (facts : Layout) → tellsFan (cond has (Laid facts) Nothing) ≡ cond has (0, facts) (4, layout [] missing)
     by-table true facts = refl
     by-table false facts = refl

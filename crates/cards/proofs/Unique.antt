@@ -6,6 +6,7 @@ use Rattle.cards.specs.declared.types.Chip.{Chip}
 use Rattle.cards.specs.declared.types.Named.{Named}
 use Rattle.cards.specs.declared.types.Fan.{Fan}
 use Rattle.cards.specs.declared.types.Masks.{Masks}
+use Rattle.cards.specs.declared.types.Register.{Register}
 use Rattle.cards.specs.declared.types.Required.{Required}
 use Rattle.cards.specs.declared.types.Sizes.{Sizes}
 use Rattle.cards.specs.Contracts.{Names, Finds, PowersOn, TellsSizes, Requires, Lays, Stands}
@@ -28,5 +29,5 @@ requires-unique p q = p .answer ∙ sym (q .answer)
 pub lays-unique : {chip : Chip} {number : ℕ} {r s : Fan} → Lays chip number r → Lays chip number s → r ≡ s
 lays-unique p q = p .answer ∙ sym (q .answer)
 
-pub stands-unique : {chip : Chip} {number k r s : ℕ} → Stands chip number k r → Stands chip number k s → r ≡ s
+pub stands-unique : {chip : Chip} {number k : ℕ} {r s : Register} → Stands chip number k r → Stands chip number k s → r ≡ s
 stands-unique p q = p .answer ∙ sym (q .answer)

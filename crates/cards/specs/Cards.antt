@@ -3,12 +3,14 @@
 use Prim.Native.Nat.{ℕ}
 use mathlib.Core.Bool.{Bool, true, false, cond, not}
 use mathlib.Core.List.{List, [], _∷_}
+use lib.Bits.{bitAnd}
 use lib.Dec.{eqb}
-use lib.ListN.{length}
+use lib.ListN.{length, getD}
 use Rattle.cards.specs.declared.types.Chip.{Chip}
 use Rattle.cards.specs.declared.types.Chip.the-variants.{Nct7802y, F75373s, Nct80}
 use Rattle.cards.specs.declared.types.Named.{Named}
 use Rattle.cards.specs.declared.types.Named.the-variants.{Known, Unknown}
+use Rattle.cards.specs.declared.types.Shape.{Shape}
 use Rattle.cards.specs.declared.types.Fan.{Fan}
 use Rattle.cards.specs.declared.types.Fan.the-variants.{Laid, Nothing}
 use Rattle.cards.specs.declared.types.Layout.{Layout}
@@ -58,6 +60,14 @@ cardOf chip = sheetOf chip .card
 unfoldable pub rowOf : Chip → ℕ → Row
 rowOf chip position = rowIn (cardOf chip) position
 
+-- "a table value is its register's writable bits, all other bits counting as zero"
+abbrev pub worth : Chip → List ℕ → ℕ → ℕ
+worth chip image position = bitAnd (getD image position 0) (rowOf chip position .writable)
+
+-- whether the register at a position can hold a value: it has no bit that may not be written
+abbrev pub fitsAt : Chip → ℕ → ℕ → Bool
+fitsAt chip position value = eqb (bitAnd value (rowOf chip position .writable)) value
+
 abbrev pub powerOn : Chip → List ℕ
 powerOn chip = powerOnIn (sheetOf chip)
 
@@ -71,6 +81,9 @@ hasTable chip number = hasTableIn (tablesOf chip) number
 abbrev pub tableOf : Chip → ℕ → Table
 tableOf chip number = tableIn (tablesOf chip) number
 
+abbrev pub shapeOf : Chip → ℕ → Shape
+shapeOf chip number = tableOf chip number .shape
+
 -- refusal 4: "the chip has no such fan table"
 abbrev pub noTable : ℕ → ℕ → Bool
 noTable chip number = not (whenKnown (chipOf chip) (λ c. hasTable c number) false)
@@ -78,7 +91,7 @@ noTable chip number = not (whenKnown (chipOf chip) (λ c. hasTable c number) fal
 -- the same of a fan table: 0 and its layout, or 4 and that of none
 abbrev pub tellsFan : Fan → ℕ × Layout
 tellsFan (Laid facts) = (0, facts)
-tellsFan Nothing = (4, layout missing)
+tellsFan Nothing = (4, layout [] missing)
 
 -- how many bytes a chip's image has
 abbrev pub sizeOf : Chip → ℕ

@@ -5,12 +5,13 @@ use mathlib.Core.Path.{_≡_}
 use Rattle.cards.specs.declared.types.Chip.{Chip}
 use Rattle.cards.specs.declared.types.Named.{Named}
 use Rattle.cards.specs.declared.types.Masks.{Masks}
+use Rattle.cards.specs.declared.types.Register.{Register}
 use Rattle.cards.specs.declared.types.Required.{Required}
 use Rattle.cards.specs.declared.types.Sizes.{Sizes}
 use Rattle.cards.specs.declared.types.Fan.{Fan}
 use Rattle.cards.specs.Rows.{masksIn, requiredIn}
 use Rattle.cards.specs.Sheets.{sizesIn, laidIn, registerIn}
-use Rattle.cards.specs.Cards.{sheetOf, chipOf, rowOf, tablesOf}
+use Rattle.cards.specs.Cards.{sheetOf, chipOf, rowOf}
 
 -- what `cards::chip_of` promises
 pub record Names (number : ℕ) (named : Named) : Type 0 where
@@ -34,8 +35,8 @@ pub record Requires (chip : Chip) (k : ℕ) (required : Required) : Type 0 where
 
 -- what `cards::table_of` promises
 pub record Lays (chip : Chip) (number : ℕ) (fan : Fan) : Type 0 where
-  pub answer : fan ≡ laidIn (tablesOf chip) number
+  pub answer : fan ≡ laidIn (sheetOf chip) number
 
 -- what `cards::register_of` promises
-pub record Stands (chip : Chip) (number k position : ℕ) : Type 0 where
-  pub answer : position ≡ registerIn (tablesOf chip) number k
+pub record Stands (chip : Chip) (number k : ℕ) (register : Register) : Type 0 where
+  pub answer : register ≡ registerIn (sheetOf chip) number k

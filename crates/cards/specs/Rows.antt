@@ -1,13 +1,19 @@
 -- "Register cards": what a card's lines say of each of the 256 addresses.
 -- Assumes nothing.
 use Prim.Native.Nat.{ℕ, zero, suc}
-use mathlib.Core.Bool.{cond}
+use mathlib.Core.Bool.{Bool, true, cond, _&&_}
 use mathlib.Core.List.{List, [], _∷_, _++_}
 use lib.Dec.{eqb}
 use lib.ListN.{getD}
 use Rattle.cards.specs.declared.types.Masks.{Masks}
+use Rattle.cards.specs.declared.types.Register.{Register}
 use Rattle.cards.specs.declared.types.Required.{Required}
 use Rattle.cards.specs.declared.types.Shape.{Shape}
+
+-- a test that holds of every entry
+abbrev pub every : {A : Type 0} → (A → Bool) → List A → Bool
+every test [] = true
+every test (a ∷ l) = test a && every test l
 
 -- a register of the sheet: its address, its writable bits, its bits that clear on one, its power-on value
 abbrev pub Line : Type 0
@@ -57,6 +63,17 @@ positions table = table .settings ++ table .speeds
 abbrev pub rowIn : List Line → ℕ → Row
 rowIn [] address = row 0x00 0x00 0x00
 rowIn (l ∷ ls) address = cond (eqb (l .0) address) (row (l .1) (l .2) (l .3)) (rowIn ls address)
+
+-- a register of a fan table: where it stands, and what a write does there
+abbrev pub withMasks : Masks → ℕ → Register
+withMasks masks position = record { position = position; masks = masks }
+
+abbrev pub registerAt : List Line → ℕ → Register
+registerAt card position = withMasks (masksIn (rowIn card position)) position
+
+-- behind the last
+abbrev pub noRegister : Register
+noRegister = withMasks (masksIn (row 0x00 0x00 0x00)) 0
 
 -- a number for each of n addresses, from the first one on
 abbrev pub eachFrom : (ℕ → ℕ) → ℕ → ℕ → List ℕ

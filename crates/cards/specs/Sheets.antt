@@ -2,16 +2,22 @@
 -- Assumes nothing.
 use Prim.Native.Nat.{ℕ}
 use mathlib.Core.Bool.{Bool, cond, _&&_}
-use mathlib.Core.List.{List, [], _∷_}
-use lib.Dec.{leb}
+use mathlib.Core.List.{List, [], _∷_, map}
+use lib.Dec.{eqb, leb}
 use lib.ListN.{length, getD}
+use Rattle.cards.specs.declared.types.Register.{Register}
 use Rattle.cards.specs.declared.types.Required.{Required}
 use Rattle.cards.specs.declared.types.Sizes.{Sizes}
-use Rattle.cards.specs.declared.types.Shape.the-variants.{Steps}
+use Rattle.cards.specs.declared.types.Shape.{Shape}
+use Rattle.cards.specs.declared.types.Shape.the-variants.{Slope, Steps}
 use Rattle.cards.specs.declared.types.Layout.{Layout}
 use Rattle.cards.specs.declared.types.Fan.{Fan}
 use Rattle.cards.specs.declared.types.Fan.the-variants.{Laid, Nothing}
-use Rattle.cards.specs.Rows.{Line, Table, Reading, positions, rowIn, column}
+use Rattle.cards.specs.Rows.{every, Line, Table, Reading, positions, rowIn, registerAt, noRegister, column}
+
+-- no image has more bytes
+abbrev pub greatest : ℕ
+greatest = 256
 
 pub record Sheet : Type 0 where
   -- "Chip 1 is the Nuvoton NCT7802Y (source document 000), chip 2 the Fintek F75373S (002), chip 3 the onsemi NCT80 (004)."
@@ -38,6 +44,11 @@ powerOnIn sheet = column (sheet .size) (λ position. rowIn (sheet .card) positio
 abbrev pub missing : Table
 missing = record { settings = []; speeds = []; shape = Steps }
 
+-- how many settings and speeds a curve of a shape has: T1 to T4 and critical, FL1 to FL4; B1 to B4, the high and low bytes of C1 to C5
+abbrev pub room : Shape → ℕ × ℕ
+room (Slope full) = (5, 4)
+room Steps = (4, 10)
+
 -- whether there is a table of that number, and which it is
 abbrev pub hasTableIn : List Table → ℕ → Bool
 hasTableIn tables number = leb 1 number && leb number (length tables)
@@ -45,13 +56,18 @@ hasTableIn tables number = leb 1 number && leb number (length tables)
 abbrev pub tableIn : List Table → ℕ → Table
 tableIn tables number = getD (missing ∷ tables) number missing
 
--- how many registers it has of each kind, and what its curve is
-abbrev pub layout : Table → Layout
-layout table = record { settings = length (table .settings); speeds = length (table .speeds); shape = table .shape }
+-- every register of the table takes every bit, "mask FFh"
+abbrev pub wholeIn : List Line → Table → Bool
+wholeIn card table = every (λ position. eqb (rowIn card position .writable) 0xFF) (positions table)
 
-abbrev pub laidIn : List Table → ℕ → Fan
-laidIn tables number = cond (hasTableIn tables number) (Laid (layout (tableIn tables number))) Nothing
+-- how many registers it has of each kind, what its curve is, and whether they take every bit
+abbrev pub layout : List Line → Table → Layout
+layout card table =
+    record { settings = length (table .settings); speeds = length (table .speeds); shape = table .shape; whole = wholeIn card table }
 
--- the k-th register of a table, settings first; 0 where there is none
-abbrev pub registerIn : List Table → ℕ → ℕ → ℕ
-registerIn tables number k = getD (positions (tableIn tables number)) k 0
+abbrev pub laidIn : Sheet → ℕ → Fan
+laidIn sheet number = cond (hasTableIn (sheet .tables) number) (Laid (layout (sheet .card) (tableIn (sheet .tables) number))) Nothing
+
+-- the k-th register of a table, settings first
+abbrev pub registerIn : Sheet → ℕ → ℕ → Register
+registerIn sheet number k = getD (map (registerAt (sheet .card)) (positions (tableIn (sheet .tables) number))) k noRegister

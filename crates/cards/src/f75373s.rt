@@ -1,5 +1,4 @@
-// The F75373S: its register card, a column to a file, its identity and its fan tables.
-mod clears;
+// The F75373S: its register card, two of its columns in a file each, its identity and its fan tables.
 mod power_on;
 mod writable;
 
@@ -7,16 +6,17 @@ use crate::types::Fan;
 use crate::types::Layout;
 use crate::types::Masks;
 use crate::types::NO_MASKS;
+use crate::types::NO_REGISTER;
 use crate::types::NOTHING;
+use crate::types::Register;
 use crate::types::Required;
 use crate::types::Shape;
 use crate::types::Sizes;
 use crate::types::in_a_row;
-use clears::CLEARS;
 use power_on::POWER_ON;
 use writable::WRITABLE;
 ghost use mathlib.Core.Path.{_≡_};
-ghost use Rattle.cards.specs.F75373s.{card, identity, tables};
+ghost use Rattle.cards.specs.F75373s.{card, identity, sheet};
 ghost use Rattle.cards.specs.Rows.{masksIn, requiredIn, rowIn};
 ghost use Rattle.cards.specs.Sheets.{laidIn, registerIn};
 
@@ -29,6 +29,17 @@ pub(crate) const SIZES: Sizes = Sizes {
     identity: REQUIRED,
 };
 
+// The interrupt status registers alone have bits that clear on one.
+fn clears(position: usize) -> u8
+    ensures { λ r. ⌜ r ≡ rowIn card position .clears ⌝ }
+{
+    match position {
+        0x31 => 0xFF,
+        0x34 => 0x03,
+        _ => 0x00,
+    }
+}
+
 pub(crate) fn masks(position: usize) -> Masks
     ensures { λ r. ⌜ r ≡ masksIn (rowIn card position) ⌝ }
 {
@@ -37,7 +48,7 @@ pub(crate) fn masks(position: usize) -> Masks
     }
     Masks {
         writable: WRITABLE[position],
-        clears: CLEARS[position],
+        clears: clears(position),
     }
 }
 
@@ -83,25 +94,32 @@ pub(crate) fn required(k: usize) -> Required
     IDENTITY[k]
 }
 
+// "All fan table registers have mask FFh".
+const EVERY_BIT: Masks = Masks {
+    writable: 0xFF,
+    clears: 0x00,
+};
+
 // The registers of the fan tables: B1 to B4, C1 to C5, high byte first.
-pub(crate) fn register(number: u8, k: usize) -> usize
-    ensures { λ r. ⌜ r ≡ registerIn tables number k ⌝ }
+pub(crate) fn register(number: u8, k: usize) -> Register
+    ensures { λ r. ⌜ r ≡ registerIn sheet number k ⌝ }
 {
     match number {
-        1 => in_a_row(0xA0, 14, k),
-        2 => in_a_row(0xB0, 14, k),
-        _ => 0,
+        1 => in_a_row(0xA0, 14, EVERY_BIT, k),
+        2 => in_a_row(0xB0, 14, EVERY_BIT, k),
+        _ => NO_REGISTER,
     }
 }
 
 pub(crate) fn table(number: u8) -> Fan
-    ensures { λ r. ⌜ r ≡ laidIn tables number ⌝ }
+    ensures { λ r. ⌜ r ≡ laidIn sheet number ⌝ }
 {
     match number {
         1..=2 => Fan::Laid(Layout {
             settings: 4,
             speeds: 10,
             shape: Shape::Steps,
+            whole: true,
         }),
         _ => Fan::Nothing,
     }

@@ -8,12 +8,17 @@ pub use types::Chip;
 pub use types::Fan;
 pub use types::Layout;
 pub use types::Masks;
+use types::NO_REGISTER;
 use types::NOTHING;
 pub use types::Named;
+pub use types::Register;
 pub use types::Required;
 pub use types::Shape;
 pub use types::Sizes;
 ghost use Rattle.cards.specs.Contracts.{Names, Finds, PowersOn, TellsSizes, Requires, Lays, Stands};
+
+// How many bytes an image has at most.
+pub const GREATEST: usize = 256;
 
 // The chip of a chip number, and none for every other number.
 pub fn chip_of(number: u8) -> Named
@@ -82,13 +87,13 @@ pub fn table_of(chip: Chip, number: u8) -> Fan
     }
 }
 
-// The k-th register of a fan table, settings first, and 0 where there is none.
-pub fn register_of(chip: Chip, number: u8, k: usize) -> usize
+// The k-th register of a fan table, settings first, and one without masks where there is none.
+pub fn register_of(chip: Chip, number: u8, k: usize) -> Register
     ensures { λ r. ⌜ Stands chip number k r ⌝ }
 {
     match chip {
         Chip::Nct7802y => nct7802y::register(number, k),
         Chip::F75373s => f75373s::register(number, k),
-        Chip::Nct80 => 0,
+        Chip::Nct80 => NO_REGISTER,
     }
 }

@@ -1,5 +1,4 @@
-// The NCT7802Y: its register card, a column to a file, its identity and its fan tables.
-mod clears;
+// The NCT7802Y: its register card, two of its columns in a file each, its identity and its fan tables.
 mod power_on;
 mod writable;
 
@@ -7,16 +6,17 @@ use crate::types::Fan;
 use crate::types::Layout;
 use crate::types::Masks;
 use crate::types::NO_MASKS;
+use crate::types::NO_REGISTER;
 use crate::types::NOTHING;
+use crate::types::Register;
 use crate::types::Required;
 use crate::types::Shape;
 use crate::types::Sizes;
 use crate::types::in_a_row;
-use clears::CLEARS;
 use power_on::POWER_ON;
 use writable::WRITABLE;
 ghost use mathlib.Core.Path.{_≡_};
-ghost use Rattle.cards.specs.Nct7802y.{card, identity, tables};
+ghost use Rattle.cards.specs.Nct7802y.{card, identity, sheet};
 ghost use Rattle.cards.specs.Rows.{masksIn, requiredIn, rowIn};
 ghost use Rattle.cards.specs.Sheets.{laidIn, registerIn};
 
@@ -37,7 +37,7 @@ pub(crate) fn masks(position: usize) -> Masks
     }
     Masks {
         writable: WRITABLE[position],
-        clears: CLEARS[position],
+        clears: 0x00,
     }
 }
 
@@ -88,26 +88,33 @@ pub(crate) fn required(k: usize) -> Required
     IDENTITY[k]
 }
 
+// "All fan table registers have mask FFh".
+const EVERY_BIT: Masks = Masks {
+    writable: 0xFF,
+    clears: 0x00,
+};
+
 // The registers of the fan tables: T1 to T4, critical, FL1 to FL4.
-pub(crate) fn register(number: u8, k: usize) -> usize
-    ensures { λ r. ⌜ r ≡ registerIn tables number k ⌝ }
+pub(crate) fn register(number: u8, k: usize) -> Register
+    ensures { λ r. ⌜ r ≡ registerIn sheet number k ⌝ }
 {
     match number {
-        1 => in_a_row(0x80, 9, k),
-        2 => in_a_row(0x90, 9, k),
-        3 => in_a_row(0xA0, 9, k),
-        _ => 0,
+        1 => in_a_row(0x80, 9, EVERY_BIT, k),
+        2 => in_a_row(0x90, 9, EVERY_BIT, k),
+        3 => in_a_row(0xA0, 9, EVERY_BIT, k),
+        _ => NO_REGISTER,
     }
 }
 
 pub(crate) fn table(number: u8) -> Fan
-    ensures { λ r. ⌜ r ≡ laidIn tables number ⌝ }
+    ensures { λ r. ⌜ r ≡ laidIn sheet number ⌝ }
 {
     match number {
         1..=3 => Fan::Laid(Layout {
             settings: 5,
             speeds: 4,
             shape: Shape::Slope(255),
+            whole: true,
         }),
         _ => Fan::Nothing,
     }

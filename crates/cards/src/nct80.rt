@@ -1,12 +1,10 @@
-// The register card of the NCT80, a column to a file.
-mod clears;
+// The register card of the NCT80, two of its columns in a file each.
 mod power_on;
 mod writable;
 
 use crate::types::Masks;
 use crate::types::NO_MASKS;
 use crate::types::Sizes;
-use clears::CLEARS;
 use power_on::POWER_ON;
 use writable::WRITABLE;
 ghost use mathlib.Core.Path.{_≡_};
@@ -28,7 +26,7 @@ pub(crate) fn masks(position: usize) -> Masks
     }
     Masks {
         writable: WRITABLE[position],
-        clears: CLEARS[position],
+        clears: 0x00,
     }
 }
 

@@ -1,8 +1,9 @@
 // What the chips' pages and their callers speak of.
 ghost use mathlib.Core.Path.{_≡_};
 ghost use Prim.Native.Nat.{_+_, _≤_};
+ghost use mathlib.Core.List.{map};
 ghost use lib.ListN.{getD};
-ghost use Rattle.cards.specs.Rows.{from};
+ghost use Rattle.cards.specs.Rows.{from, withMasks, noRegister};
 
 pub enum Chip {
     Nct7802y,
@@ -20,6 +21,12 @@ pub enum Named {
 pub struct Masks {
     pub writable: u8,
     pub clears: u8,
+}
+
+// A register of a fan table: where it stands in the image, and what a write does there.
+pub struct Register {
+    pub position: usize,
+    pub masks: Masks,
 }
 
 // How many bytes a chip's image has, and how many registers its identity looks at.
@@ -41,11 +48,12 @@ pub enum Shape {
     Steps,
 }
 
-// How many registers of each kind a fan table has, and what its curve is.
+// How many registers of each kind a fan table has, what its curve is, and whether every register of it takes every bit: then each byte fits.
 pub struct Layout {
     pub settings: usize,
     pub speeds: usize,
     pub shape: Shape,
+    pub whole: bool,
 }
 
 // The fan table of a number, if there is one.
@@ -54,18 +62,30 @@ pub enum Fan {
     Nothing,
 }
 
-// The k-th of some registers that stand in a row, and 0 behind the last.
-pub(crate) fn in_a_row(first: usize, count: usize, k: usize) -> usize
+// The k-th of some registers that stand in a row and have the same masks, and none behind the last.
+pub(crate) fn in_a_row(first: usize, count: usize, masks: Masks, k: usize) -> Register
     requires { ⌜ first + count ≤ 256 ⌝ }
-    ensures { λ r. ⌜ r ≡ getD (from first count) k 0 ⌝ }
+    ensures { λ r. ⌜ r ≡ getD (map (withMasks masks) (from first count)) k noRegister ⌝ }
 {
-    if k < count { first + k } else { 0 }
+    if count <= k {
+        return NO_REGISTER;
+    }
+    Register {
+        position: first + k,
+        masks,
+    }
 }
 
 // Behind the end of a card.
 pub(crate) const NO_MASKS: Masks = Masks {
     writable: 0x00,
     clears: 0x00,
+};
+
+// Behind the last register of a table.
+pub(crate) const NO_REGISTER: Register = Register {
+    position: 0,
+    masks: NO_MASKS,
 };
 
 // No bit of any register.

@@ -2,18 +2,19 @@
 -- Assumes nothing.
 use Prim.Native.Nat.{ℕ}
 use native.Mathlib.Omega.{arith}
-use mathlib.Core.List.{[]}
 use mathlib.Core.Path.{sym, ap, _∙_}
 use Rattle.cards.specs.declared.types.Chip.{Chip}
+use Rattle.cards.specs.declared.types.Register.{Register}
 use Rattle.cards.specs.Sheets.{registerIn}
-use Rattle.cards.specs.Cards.{sheetOf, tablesOf}
+use Rattle.cards.specs.Nct80.{sheet}
+use Rattle.cards.specs.Cards.{sheetOf}
 use Rattle.cards.proofs.Tables.{no-register}
 use borrow.Author.Needs.{needs}
 use Rattle.cards.proofs.register_of.Statement.{statement}
 use Rattle.cards.proofs.register_of.Tie as tie
 
-abbrev at : ℕ → ℕ → Chip → ℕ
-at number k chip = registerIn (tablesOf chip) number k
+abbrev at : ℕ → ℕ → Chip → Register
+at number k chip = registerIn (sheetOf chip) number k
 
 enum-told : tie.Need-enum-told
 enum-told c = search needs
@@ -42,7 +43,7 @@ returns-3 : tie.Need-returns-3
 unfolding sheetOf
 returns-3 c =
     let a = c .before .before .args in
-    record { answer = sym (no-register [] (a .number) (a .k) (λ p q. omega arith)) ∙ ap (at (a .number) (a .k)) (sym (c .enum-told3 .given .1)) }
+    record { answer = sym (no-register sheet (a .number) (a .k) (λ p q. omega arith)) ∙ ap (at (a .number) (a .k)) (sym (c .enum-told3 .given .1)) }
 
 pub register-of-spec : {M : Type 1} → statement M
 register-of-spec =

@@ -9,14 +9,14 @@ use Rattle.cards.specs.declared.types.Chip.the-variants.{Nct80}
 use Rattle.cards.specs.declared.types.Fan.{Fan}
 use Rattle.cards.specs.declared.types.Fan.the-variants.{Laid, Nothing}
 use Rattle.cards.specs.Sheets.{layout, laidIn}
-use Rattle.cards.specs.Cards.{sheetOf, tablesOf, tableOf}
+use Rattle.cards.specs.Cards.{sheetOf, cardOf, tableOf}
 use Rattle.cards.proofs.Tables.{no-number}
 use borrow.Author.Needs.{needs}
 use Rattle.cards.proofs.table_of.Statement.{statement}
 use Rattle.cards.proofs.table_of.Tie as tie
 
 abbrev laid : ℕ → Chip → Fan
-laid number chip = laidIn (tablesOf chip) number
+laid number chip = laidIn (sheetOf chip) number
 
 enum-told : tie.Need-enum-told
 enum-told c = search needs
@@ -46,7 +46,7 @@ unfolding sheetOf
 returns-3 c =
     let number = c .before .before .args .number in
     record {
-      answer = sym (ap (λ (has : Bool). cond has (Laid (layout (tableOf Nct80 number))) Nothing) (no-number number 0 (λ p q. omega arith)))
+      answer = sym (ap (λ (has : Bool). cond has (Laid (layout (cardOf Nct80) (tableOf Nct80 number))) Nothing) (no-number number 0 (λ p q. omega arith)))
           ∙ ap (laid number) (sym (c .enum-told3 .given .1));
     }
 

@@ -2,13 +2,14 @@
 -- Assumes nothing.
 use native.Mathlib.Omega.{arith}
 use Rattle.cards.specs.declared.types.Chip.the-variants.{F75373s}
+use Rattle.cards.specs.F75373s.{card}
 use Rattle.cards.specs.Cards.{sheetOf}
 use Rattle.cards.proofs.Tables.{laid-first, no-number}
 use Rattle.cards.proofs.f75373s.table.Statement.{statement}
 use Rattle.cards.proofs.f75373s.table.Tie as tie
 
 returns : tie.Need-returns
-unfolding sheetOf
+unfolding sheetOf card
 returns c = laid-first F75373s (c .before .before .args .number) (omega arith) (omega arith)
 
 returns-2 : tie.Need-returns-2

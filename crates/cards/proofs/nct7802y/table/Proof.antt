@@ -2,13 +2,14 @@
 -- Assumes nothing.
 use native.Mathlib.Omega.{arith}
 use Rattle.cards.specs.declared.types.Chip.the-variants.{Nct7802y}
+use Rattle.cards.specs.Nct7802y.{card}
 use Rattle.cards.specs.Cards.{sheetOf}
 use Rattle.cards.proofs.Tables.{laid-first, no-number}
 use Rattle.cards.proofs.nct7802y.table.Statement.{statement}
 use Rattle.cards.proofs.nct7802y.table.Tie as tie
 
 returns : tie.Need-returns
-unfolding sheetOf
+unfolding sheetOf card
 returns c = laid-first Nct7802y (c .before .before .args .number) (omega arith) (omega arith)
 
 returns-2 : tie.Need-returns-2

@@ -1,24 +1,32 @@
--- `cards::types::in_a_row` meets its contract: the k-th of some numbers in a row is k behind the first, and behind the last there is nothing.
+-- `cards::types::in_a_row` meets its contract: the k-th of some registers in a row is k behind the first, and behind the last there is none.
 -- Assumes nothing.
 use native.Mathlib.Omega.{arith}
-use mathlib.Core.Path.{sym}
-use lib.ListN.{List·getD-eq-default}
-use Rattle.cards.specs.Rows.{from}
+use mathlib.Core.List.{map}
+use mathlib.Core.Path.{sym, ap, _∙_}
+use lib.ListN.{length-map, List·getD-eq-default}
+use Rattle.cards.specs.Rows.{from, withMasks, noRegister}
 use Rattle.cards.proofs.Columns.{run-length, run-at}
+use Rattle.cards.proofs.Every.{map-at}
 use borrow.Author.Needs.{needs}
 use Rattle.cards.proofs.types.in_a_row.Statement.{statement}
 use Rattle.cards.proofs.types.in_a_row.Tie as tie
 
-add-result : tie.Need-add-result
-add-result c = search needs
-
 returns : tie.Need-returns
-returns c = let a = c .before .args in sym (run-at (λ n. n) (a .first) (a .count) (a .k) (c .if1 .taken))
+returns c =
+    let a = c .before .args in
+    let row = from (a .first) (a .count) in
+    sym (List·getD-eq-default (map (withMasks (a .masks)) row) noRegister
+    (omega (arith, length-map row (withMasks (a .masks)), run-length (λ n. n) (a .first) (a .count), c .if1 .taken)))
+
+add-t7 : tie.Need-add-t7
+add-t7 c = search needs
 
 returns-2 : tie.Need-returns-2
 returns-2 c =
     let a = c .before .args in
-    sym (List·getD-eq-default (from (a .first) (a .count)) 0 (omega (arith, run-length (λ n. n) (a .first) (a .count), c .if1 .left)))
+    let row = from (a .first) (a .count) in
+    sym (map-at (withMasks (a .masks)) row 0 noRegister (a .k) (omega (arith, run-length (λ n. n) (a .first) (a .count), c .if1 .left))
+    ∙ ap (withMasks (a .masks)) (run-at (λ n. n) (a .first) (a .count) (a .k) (c .if1 .left)))
 
 pub in-a-row-spec : {M : Type 1} → statement M
-in-a-row-spec = tie.close (tie.spec add-result returns returns-2)
+in-a-row-spec = tie.close (tie.spec returns add-t7 returns-2)
