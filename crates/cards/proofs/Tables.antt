@@ -1,5 +1,5 @@
--- The registers of a fan table are distinct positions that the bus reaches, and a speed's takes the full duty: of any page that passes its test, carried
--- to each register; and what the answers of `table_of` and `register_of` tell of them.
+-- The registers of a fan table are distinct positions that the bus reaches, and a speed's takes the full duty: of any page that passes its test,
+-- carried to each register; and what the answers of `table_of` and `register_of` tell of them.
 -- Assumes nothing.
 use Prim.Native.Nat.{ℕ, zero, suc, _^_, _≤_, _<_}
 use native.Mathlib.Nat.{mod-eq-of-lt}
@@ -95,7 +95,8 @@ module _ (sheet : Sheet) (S : Sound sheet) (number : ℕ) where
   beside : So (distinct (positions table)) × So (leb (length (positions table)) 14 && every (reachesAt sheet (table .shape)) (table .speeds))
   beside = both (distinct (positions table)) _ (both (every (stands sheet) (positions table)) _ tested-table .1)
 
-  sheet-distinct : (j k : ℕ) → j < length (positions table) → k < length (positions table) → getD (positions table) j 0 ≡ getD (positions table) k 0 → j ≡ k
+  sheet-distinct : (j k : ℕ) → j < length (positions table) → k < length (positions table)
+      → getD (positions table) j 0 ≡ getD (positions table) k 0 → j ≡ k
   sheet-distinct = apart (positions table) (beside .0)
 
   sheet-short : length (positions table) ≤ 14

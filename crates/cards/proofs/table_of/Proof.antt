@@ -45,8 +45,9 @@ returns-3 : tie.Need-returns-3
 unfolding sheetOf
 returns-3 c =
     let number = c .before .before .args .number in
+    let facts = layout (cardOf Nct80) (tableOf Nct80 number) in
     record {
-      answer = sym (ap (λ (has : Bool). cond has (Laid (layout (cardOf Nct80) (tableOf Nct80 number))) Nothing) (no-number number 0 (λ p q. omega arith)))
+      answer = sym (ap (λ (has : Bool). cond has (Laid facts) Nothing) (no-number number 0 (λ p q. omega arith)))
           ∙ ap (laid number) (sym (c .enum-told3 .given .1));
     }
 
