@@ -7,7 +7,8 @@ use lib.Dec.{leb}
 use lib.ListN.{length, getD}
 use Rattle.cards.specs.declared.types.Required.{Required}
 use Rattle.cards.specs.declared.types.Sizes.{Sizes}
-use Rattle.cards.specs.declared.types.Shape.the-variants.{Steps}
+use Rattle.cards.specs.declared.types.Shape.{Shape}
+use Rattle.cards.specs.declared.types.Shape.the-variants.{Slope, Steps}
 use Rattle.cards.specs.declared.types.Layout.{Layout}
 use Rattle.cards.specs.declared.types.Fan.{Fan}
 use Rattle.cards.specs.declared.types.Fan.the-variants.{Laid, Nothing}
@@ -37,6 +38,11 @@ powerOnIn sheet = column (sheet .size) (λ position. rowIn (sheet .card) positio
 -- a table without a register stands in where there is none, as for number 0
 abbrev pub missing : Table
 missing = record { settings = []; speeds = []; shape = Steps }
+
+-- how many settings and how many speeds a curve has: T1 to T4, critical, FL1 to FL4; B1 to B4, the two bytes of C1 to C5
+abbrev pub room : Shape → ℕ × ℕ
+room (Slope full) = (5, 4)
+room Steps = (4, 10)
 
 -- whether there is a table of that number, and which it is
 abbrev pub hasTableIn : List Table → ℕ → Bool
