@@ -17,7 +17,8 @@ fn mean(low: u8, from: u8, high: u8, to: u8, at: u8) -> u8
     ((from as u32 * down + to as u32 * up) / span) as u8
 }
 
-// Below critical: "FL1 if T is at most T1; else for the first k in 2, 3, 4 with T at most Tk" the mean, "else FL4". Full is asked of a slope without a point.
+// Below critical: "FL1 if T is at most T1; else for the first k in 2, 3, 4 with T at most Tk" the mean, "else FL4". There are points, so it is
+// the same whatever is full.
 fn duty_below(degrees: [u8; 4], duties: [u8; 4], at: u8) -> u8
     ensures { λ r. ⌜ ((full : ℕ) → r ≡ below full (points degrees duties) at) ⌝ }
 {
