@@ -1,39 +1,46 @@
--- A plan that comes out of a body names its chip and its table and has its arrays' lengths, and values that are laid out come back.
+-- A plan that comes out of a body names its chip and its table and has its arrays' lengths; a body and the plan in its bytes undo each other.
 -- Assumes nothing.
-use Prim.Native.Nat.{ℕ}
+use Prim.Native.Nat.{ℕ, _+_, _<_, _^_}
 use native.Mathlib.Omega.{arith}
 use mathlib.Core.Path.{_≡_, refl, sym, ap, ap₂, _∙_}
 use mathlib.Core.List.{List, [], _∷_, _++_}
-use lib.ListN.{length}
-use Rattle.cards.specs.declared.types.Chip.{Chip}
-use Rattle.cards.specs.declared.types.Chip.the-variants.{Nct7802y, F75373s, Nct80}
-use Rattle.cards.specs.declared.types.Named.the-variants.{Known}
-use Rattle.cards.specs.Cards.{sheetOf, chipOf}
+use lib.ListN.{length, getD, length-append}
+use Rattle.cards.specs.declared.types.Shape.{Shape}
+use Rattle.cards.specs.declared.types.Shape.the-variants.{Slope, Steps}
+use Rattle.cards.specs.Rows.{from}
+use Rattle.cards.specs.Sheets.{room}
 use Rattle.curves.specs.declared.SlopeValues.{SlopeValues}
 use Rattle.curves.specs.declared.StepValues.{StepValues}
+use Rattle.curves.specs.declared.Plan.{Plan}
 use Rattle.curves.specs.Curves.{halves, words}
-use Rattle.curves.specs.Values.{Sized}
-use Rattle.curves.proofs.StepLaws.{halves-length, words-halves}
+use Rattle.curves.specs.Planned.{planned, valuesAt}
+use Rattle.curves.specs.Values.{noSlope, noSteps, Within, Sized}
+use Rattle.curves.proofs.StepLaws.{halves-length, words-halves, halves-words}
 use Rattle.curves.proofs.Registers.{spelled}
-use Rattle.bodies.specs.Bodies.{slopeIn, stepsIn, decoded}
+use Rattle.curves.proofs.Owned.{all-at}
+use Rattle.curves.proofs.Filled.{planned-sized}
+use Rattle.bodies.specs.Bodies.{body, slopeIn, stepsIn, decoded, ownOf}
 
-pub decoded-chip : (chip : Chip) (table : ℕ) (body : List ℕ) → chipOf (decoded chip table body .chip) ≡ Known chip
-unfolding sheetOf
-decoded-chip Nct7802y table body = refl
-decoded-chip F75373s table body = refl
-decoded-chip Nct80 table body = refl
+pub decoded-chip : (shape : Shape) (chip table : ℕ) (bytes : List ℕ) → decoded shape chip table bytes .chip ≡ chip
+decoded-chip (Slope full) chip table bytes = refl
+decoded-chip Steps chip table bytes = refl
 
-pub decoded-table : (chip : Chip) (table : ℕ) (body : List ℕ) → decoded chip table body .table ≡ table
-decoded-table Nct7802y table body = refl
-decoded-table F75373s table body = refl
-decoded-table Nct80 table body = refl
+pub decoded-table : (shape : Shape) (chip table : ℕ) (bytes : List ℕ) → decoded shape chip table bytes .table ≡ table
+decoded-table (Slope full) chip table bytes = refl
+decoded-table Steps chip table bytes = refl
 
 -- however short the body is
-pub decoded-sized : (chip : Chip) (table : ℕ) (rest : List ℕ) → Sized (decoded chip table rest)
+pub decoded-sized : (shape : Shape) (chip table : ℕ) (bytes : List ℕ) → Sized (decoded shape chip table bytes)
 unfolding words
-decoded-sized Nct7802y table rest = record { temperatures = refl; duties = refl; bounds = refl; counts = refl }
-decoded-sized F75373s table rest = record { temperatures = refl; duties = refl; bounds = refl; counts = refl }
-decoded-sized Nct80 table rest = record { temperatures = refl; duties = refl; bounds = refl; counts = refl }
+decoded-sized (Slope full) chip table bytes = record { temperatures = refl; duties = refl; bounds = refl; counts = refl }
+decoded-sized Steps chip table bytes = record { temperatures = refl; duties = refl; bounds = refl; counts = refl }
+
+-- "9 bytes for chip 1, 14 for chip 2"
+pub body-length : (shape : Shape) (plan : Plan) → Sized plan → length (body (planned shape plan)) ≡ room shape .0 + room shape .1
+body-length shape plan sized =
+    let curve = planned shape plan in
+    let filled = planned-sized shape plan sized in
+    length-append (curve .settings) (curve .speeds) ∙ ap₂ (λ (m n : ℕ). m + n) (filled .0) (filled .1)
 
 -- values that are laid out come back, whatever stands behind them
 pub slope-back : (values : SlopeValues) (rest : List ℕ) → length (values .temperatures) ≡ 4 → length (values .duties) ≡ 4
@@ -53,3 +60,23 @@ steps-back values rest b c =
     let bs = spelled (values .bounds) 4 b in
     let hs = spelled (halves (values .counts)) 10 (omega (arith, halves-length (values .counts), c)) in
     sym (ap₂ undone bs hs) ∙ ap₂ (λ (l h : List ℕ). of l (words h)) bs hs ∙ ap (of (values .bounds)) (words-halves (values .counts))
+
+-- a plan's body is decoded to the plan
+pub body-back : (shape : Shape) (plan : Plan) (rest : List ℕ) → Sized plan
+    → decoded shape (plan .chip) (plan .table) (body (planned shape plan) ++ rest) ≡ ownOf shape plan
+body-back (Slope full) plan rest sized =
+    let values = slope-back (plan .slope) rest (sized .temperatures) (sized .duties) in
+    λ i. record { chip = plan .chip; table = plan .table; slope = values i; steps = noSteps }
+body-back Steps plan rest sized =
+    let values = steps-back (plan .steps) rest (sized .bounds) (sized .counts) in
+    λ i. record { chip = plan .chip; table = plan .table; slope = noSlope; steps = values i }
+
+-- a whole body is the body of the plan in it
+pub encode-decode : (shape : Shape) (chip table : ℕ) (bytes : List ℕ) → length bytes ≡ room shape .0 + room shape .1 → Within 8 bytes
+    → body (planned shape (decoded shape chip table bytes)) ≡ bytes
+encode-decode (Slope full) chip table bytes h within = spelled bytes 9 h
+encode-decode Steps chip table bytes h within =
+    let byte : (k : ℕ) → getD bytes k 0 < 256 = all-at (λ b. b < 2 ^ 8) bytes within (omega arith) in
+    ap (λ (l : List ℕ). valuesAt bytes (from 0 4) ++ l)
+    (halves-words (valuesAt bytes (from 4 10)) (byte 5, (byte 7, (byte 9, (byte 11, (byte 13, tt))))))
+    ∙ spelled bytes 14 h

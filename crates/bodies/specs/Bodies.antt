@@ -3,8 +3,8 @@
 use Prim.Native.Nat.{ℕ}
 use mathlib.Core.List.{List, _++_}
 use lib.ListN.{getD}
-use Rattle.cards.specs.declared.types.Chip.{Chip}
-use Rattle.cards.specs.declared.types.Chip.the-variants.{Nct7802y, F75373s, Nct80}
+use Rattle.cards.specs.declared.types.Shape.{Shape}
+use Rattle.cards.specs.declared.types.Shape.the-variants.{Slope, Steps}
 use Rattle.cards.specs.Rows.{from}
 use Rattle.curves.specs.declared.SlopeValues.{SlopeValues}
 use Rattle.curves.specs.declared.StepValues.{StepValues}
@@ -24,8 +24,12 @@ slopeIn body = record { temperatures = valuesAt body (from 0 4); critical = getD
 abbrev pub stepsIn : List ℕ → StepValues
 stepsIn body = record { bounds = valuesAt body (from 0 4); counts = words (valuesAt body (from 4 10)) }
 
--- the plan whose curve stands in a body's bytes; "those of the other chip are zero in what is read"
-abbrev pub decoded : Chip → ℕ → List ℕ → Plan
-decoded Nct7802y table body = record { chip = 1; table = table; slope = slopeIn body; steps = noSteps }
-decoded F75373s table body = record { chip = 2; table = table; slope = noSlope; steps = stepsIn body }
-decoded Nct80 table body = record { chip = 3; table = table; slope = noSlope; steps = noSteps }
+-- the plan of a chip's number whose curve stands in a body's bytes; the values of the other kind of curve are zero
+abbrev pub decoded : Shape → ℕ → ℕ → List ℕ → Plan
+decoded (Slope full) chip table body = record { chip = chip; table = table; slope = slopeIn body; steps = noSteps }
+decoded Steps chip table body = record { chip = chip; table = table; slope = noSlope; steps = stepsIn body }
+
+-- "those of the other chip are zero in what is read": what comes back of a plan
+abbrev pub ownOf : Shape → Plan → Plan
+ownOf (Slope full) plan = record { chip = plan .chip; table = plan .table; slope = plan .slope; steps = noSteps }
+ownOf Steps plan = record { chip = plan .chip; table = plan .table; slope = noSlope; steps = plan .steps }

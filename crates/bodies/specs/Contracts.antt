@@ -4,15 +4,16 @@ use Prim.Native.Nat.{ℕ}
 use mathlib.Core.Path.{_≡_}
 use mathlib.Core.List.{List}
 use lib.ListN.{getD}
-use Rattle.cards.specs.declared.types.Chip.{Chip}
+use Rattle.cards.specs.declared.types.Shape.{Shape}
+use Rattle.cards.specs.Rows.{column}
 use Rattle.curves.specs.declared.Plan.{Plan}
 use Rattle.curves.specs.Planned.{planned}
 use Rattle.bodies.specs.Bodies.{body, decoded}
 
 -- what `bodies::plan_of` promises. The bytes are only read, so they are what they were.
-pub record Decodes (chip : Chip) (table : ℕ) (bytes : List ℕ) (plan : Plan) : Type 0 where
-  pub answer : plan ≡ decoded chip table bytes
+pub record Decodes (shape : Shape) (chip table : ℕ) (bytes : List ℕ) (plan : Plan) : Type 0 where
+  pub answer : plan ≡ decoded shape chip table bytes
 
--- what `bodies::byte_of` promises: the byte at a place of a plan's body, and 0 behind its end
-pub record EncodesByte (chip : Chip) (plan : Plan) (k r : ℕ) : Type 0 where
-  pub answer : r ≡ getD (body (planned chip plan)) k 0
+-- what `bodies::body_of` promises: the bytes of a plan's body, "9 bytes for chip 1, 14 for chip 2", and zeros behind them
+pub record EncodesBody (shape : Shape) (plan : Plan) (bytes : List ℕ) : Type 0 where
+  pub answer : bytes ≡ column 14 (λ k. getD (body (planned shape plan)) k 0)

@@ -10,7 +10,7 @@ ghost use Rattle.curves.specs.Planned.{valuesAt};
 ghost use Rattle.bodies.specs.Bodies.{slopeIn, stepsIn};
 
 // The byte at a place, and 0 behind the end.
-pub(crate) fn byte_at(body: &[u8], at: usize) -> u8
+fn byte_at(body: &[u8], at: usize) -> u8
     ensures { λ r. ⌜ r ≡ getD (now (body .entry)) at 0 ⌝ }
 {
     if at < body.len() { body[at] } else { 0 }
@@ -39,7 +39,7 @@ fn word_at(body: &[u8], at: usize) -> u16
 }
 
 // C1 to C5 stand behind B1 to B4.
-fn counts_at_4(body: &[u8]) -> [u16; 5]
+fn counts_in(body: &[u8]) -> [u16; 5]
     ensures { λ r. ⌜ r ≡ words (valuesAt (now (body .entry)) (from 4 10)) ⌝ }
 {
     [
@@ -68,6 +68,6 @@ pub(crate) fn steps_in(body: &[u8]) -> StepValues
 {
     StepValues {
         bounds: four_at(body, 0),
-        counts: counts_at_4(body),
+        counts: counts_in(body),
     }
 }

@@ -2,55 +2,51 @@
 mod decoding;
 mod encoding;
 
-use cards::Chip;
+use cards::Shape;
 use curves::NO_SLOPE;
 use curves::NO_STEPS;
 use curves::Plan;
-ghost use Rattle.bodies.specs.Contracts.{Decodes, EncodesByte};
+ghost use Rattle.bodies.specs.Contracts.{Decodes, EncodesBody};
+
+// No body has more bytes.
+pub const LONGEST: usize = 14;
 
 // The plan whose curve stands in a body's bytes. What a short body lacks counts as 0.
-pub fn plan_of(chip: Chip, table: u8, body: &[u8]) -> Plan
-    ensures { λ r. ⌜ Decodes chip table (now (body .entry)) r ⌝ }
+pub fn plan_of(shape: Shape, chip: u8, table: u8, body: &[u8]) -> Plan
+    ensures { λ r. ⌜ Decodes shape chip table (now (body .entry)) r ⌝ }
 {
-    match chip {
-        Chip::Nct7802y => Plan {
-            chip: 1,
+    match shape {
+        Shape::Slope(_) => Plan {
+            chip,
             table,
             slope: decoding::slope_in(body),
             steps: NO_STEPS,
         },
-        Chip::F75373s => Plan {
-            chip: 2,
+        Shape::Steps => Plan {
+            chip,
             table,
             slope: NO_SLOPE,
             steps: decoding::steps_in(body),
         },
-        Chip::Nct80 => Plan {
-            chip: 3,
-            table,
-            slope: NO_SLOPE,
-            steps: NO_STEPS,
-        },
     }
 }
 
-// The byte at a place of a plan's body, and 0 behind its end.
-pub fn byte_of(chip: Chip, plan: Plan, k: usize) -> u8
-    ensures { λ r. ⌜ EncodesByte chip plan k r ⌝ }
+// The bytes of a plan's body, and zeros behind them.
+pub fn body_of(shape: Shape, plan: Plan) -> [u8; LONGEST]
+    ensures { λ r. ⌜ EncodesBody shape plan r ⌝ }
 {
-    match chip {
-        Chip::Nct7802y => {
+    match shape {
+        Shape::Slope(_) => {
             let values = plan.slope;
             let temperatures = values.temperatures;
             let duties = values.duties;
-            encoding::slope_byte(temperatures, values.critical, duties, k)
+            encoding::slope_bytes(temperatures, values.critical, duties)
         }
-        Chip::F75373s => {
+        Shape::Steps => {
             let values = plan.steps;
             let bounds = values.bounds;
             let counts = values.counts;
-            encoding::step_byte(bounds, counts, k)
+            encoding::step_bytes(bounds, counts)
         }
-        Chip::Nct80 => 0,
     }
 }

@@ -7,10 +7,11 @@ use mathlib.Core.List.{List, [], _∷_, map}
 use lib.ListN.{length, getD, take, drop}
 use lib.Seq.{drop-cons, take-all, take-at, getD-at}
 use Rattle.cards.specs.Rows.{from}
-use Rattle.cards.specs.declared.types.Chip.the-variants.{Nct7802y, F75373s}
+use Rattle.cards.specs.declared.types.Shape.the-variants.{Slope, Steps}
 use Rattle.curves.specs.declared.Plan.{Plan}
 use Rattle.curves.specs.Curves.{degree, points, slope, stepRule}
 use Rattle.curves.specs.Planned.{planned, valuesAt, asks}
+use Rattle.curves.specs.Values.{Sized}
 use Rattle.curves.proofs.StepLaws.{words-halves}
 
 -- what stands at n places in a row is a part of the list
@@ -24,11 +25,13 @@ pub spelled : (l : List ℕ) (n : ℕ) → length l ≡ n → valuesAt l (from 0
 spelled l n h = in-a-row l 0 n (omega arith) ∙ take-all n l (omega arith)
 
 -- a plan asks what the curve of its registers asks
-pub planned-duty : (plan : Plan) (t : ℕ) → length (plan .slope .temperatures) ≡ 4
-    → slope 255 (points (map degree (plan .slope .temperatures)) (plan .slope .duties)) (degree (plan .slope .critical)) (degree t)
-    ≡ asks Nct7802y (planned Nct7802y plan) t
-planned-duty plan t h =
-    rw (take-at (plan .slope .temperatures) (plan .slope .critical ∷ []) 4 h, getD-at (plan .slope .temperatures) (plan .slope .critical) [] 0 4 h)
+pub planned-duty : (full : ℕ) (plan : Plan) (t : ℕ) → Sized plan
+    → slope full (points (map degree (plan .slope .temperatures)) (plan .slope .duties)) (degree (plan .slope .critical)) (degree t)
+    ≡ asks (Slope full) (planned (Slope full) plan) t
+planned-duty full plan t sized =
+    let n = length (plan .slope .duties) in
+    let h : length (plan .slope .temperatures) ≡ n = sized .temperatures ∙ sym (sized .duties) in
+    rw (take-at (plan .slope .temperatures) (plan .slope .critical ∷ []) n h, getD-at (plan .slope .temperatures) (plan .slope .critical) [] 0 n h)
 
-pub planned-count : (plan : Plan) (t : ℕ) → stepRule (plan .steps .bounds) (plan .steps .counts) t ≡ asks F75373s (planned F75373s plan) t
+pub planned-count : (plan : Plan) (t : ℕ) → stepRule (plan .steps .bounds) (plan .steps .counts) t ≡ asks Steps (planned Steps plan) t
 planned-count plan t = rw (words-halves (plan .steps .counts))

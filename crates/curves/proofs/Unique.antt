@@ -3,16 +3,19 @@
 use Prim.Native.Nat.{ℕ}
 use mathlib.Core.Path.{_≡_, sym, _∙_}
 use mathlib.Core.Bool.{Bool}
-use Rattle.cards.specs.declared.types.Chip.{Chip}
+use Rattle.cards.specs.declared.types.Shape.{Shape}
 use Rattle.curves.specs.declared.Plan.{Plan}
-use Rattle.curves.specs.Contracts.{Asks, OrdersTemperatures, OrdersSpeeds}
+use Rattle.curves.specs.Contracts.{Asks, OrdersTemperatures, OrdersSpeeds, Raises}
 
-pub asks-unique : {chip : Chip} {plan : Plan} {t r s : ℕ} → Asks chip plan t r → Asks chip plan t s → r ≡ s
+pub asks-unique : {shape : Shape} {plan : Plan} {t r s : ℕ} → Asks shape plan t r → Asks shape plan t s → r ≡ s
 asks-unique p q = p .answer ∙ sym (q .answer)
 
-pub ordersTemperatures-unique : {chip : Chip} {plan : Plan} {r s : Bool}
-    → OrdersTemperatures chip plan r → OrdersTemperatures chip plan s → r ≡ s
+pub ordersTemperatures-unique : {shape : Shape} {plan : Plan} {r s : Bool}
+    → OrdersTemperatures shape plan r → OrdersTemperatures shape plan s → r ≡ s
 ordersTemperatures-unique p q = p .answer ∙ sym (q .answer)
 
-pub ordersSpeeds-unique : {chip : Chip} {plan : Plan} {r s : Bool} → OrdersSpeeds chip plan r → OrdersSpeeds chip plan s → r ≡ s
+pub ordersSpeeds-unique : {shape : Shape} {plan : Plan} {r s : Bool} → OrdersSpeeds shape plan r → OrdersSpeeds shape plan s → r ≡ s
 ordersSpeeds-unique p q = p .answer ∙ sym (q .answer)
+
+pub raises-unique : {shape : Shape} {r s : ℕ} → Raises shape r → Raises shape s → r ≡ s
+raises-unique p q = p .answer ∙ sym (q .answer)

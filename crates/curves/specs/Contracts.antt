@@ -3,18 +3,22 @@
 use Prim.Native.Nat.{ℕ}
 use mathlib.Core.Path.{_≡_}
 use mathlib.Core.Bool.{Bool}
-use Rattle.cards.specs.declared.types.Chip.{Chip}
+use Rattle.cards.specs.declared.types.Shape.{Shape}
 use Rattle.curves.specs.declared.Plan.{Plan}
-use Rattle.curves.specs.Planned.{planned, asks, temperaturesInOrder, speedsInOrder}
+use Rattle.curves.specs.Planned.{planned, asks, temperaturesInOrder, speedsInOrder, fullOf}
 
 -- what `curves::speed_of` promises
-pub record Asks (chip : Chip) (plan : Plan) (t r : ℕ) : Type 0 where
-  pub answer : r ≡ asks chip (planned chip plan) t
+pub record Asks (shape : Shape) (plan : Plan) (t r : ℕ) : Type 0 where
+  pub answer : r ≡ asks shape (planned shape plan) t
 
 -- what `curves::temperatures_in_order` promises
-pub record OrdersTemperatures (chip : Chip) (plan : Plan) (r : Bool) : Type 0 where
-  pub answer : r ≡ temperaturesInOrder chip plan
+pub record OrdersTemperatures (shape : Shape) (plan : Plan) (r : Bool) : Type 0 where
+  pub answer : r ≡ temperaturesInOrder shape plan
 
 -- what `curves::speeds_in_order` promises
-pub record OrdersSpeeds (chip : Chip) (plan : Plan) (r : Bool) : Type 0 where
-  pub answer : r ≡ speedsInOrder chip plan
+pub record OrdersSpeeds (shape : Shape) (plan : Plan) (r : Bool) : Type 0 where
+  pub answer : r ≡ speedsInOrder shape plan
+
+-- what `curves::full_of` promises
+pub record Raises (shape : Shape) (r : ℕ) : Type 0 where
+  pub answer : r ≡ fullOf shape

@@ -1,14 +1,14 @@
--- "Plans and what they ask": a plan's curve, when its values are in order and what it asks of its chip.
+-- "Plans and what they ask": a plan's curve, when its values are in order, what it asks and which of two speeds is faster, by the shape of the curve.
 -- Assumes nothing.
-use Prim.Native.Nat.{ℕ}
-use mathlib.Core.Bool.{Bool, true, _&&_}
+use Prim.Native.Nat.{ℕ, min, max}
+use mathlib.Core.Bool.{Bool, _&&_}
 use mathlib.Core.List.{List, [], _∷_, _++_, map}
-use lib.ListN.{getD, take}
-use Rattle.cards.specs.declared.types.Chip.{Chip}
-use Rattle.cards.specs.declared.types.Chip.the-variants.{Nct7802y, F75373s, Nct80}
+use lib.ListN.{length, getD, take}
+use Rattle.cards.specs.declared.types.Shape.{Shape}
+use Rattle.cards.specs.declared.types.Shape.the-variants.{Slope, Steps}
 use Rattle.curves.specs.declared.Plan.{Plan}
 use Rattle.curves.specs.Curves.{degree, points, slope, stepRule, halves, words}
-use Rattle.curves.specs.Orders.{rising, falling, neverFalls, lastAtMost}
+use Rattle.curves.specs.Orders.{rising, falling, neverFalls, lastAtMost, MoreDuty, LessCount}
 
 -- A curve as a fan table's registers hold it, in register order: its settings, then its speeds.
 pub record Curve : Type 0 where
@@ -16,10 +16,9 @@ pub record Curve : Type 0 where
   pub speeds : List ℕ
 
 -- the curve of a plan: "the body in the register order"
-abbrev pub planned : Chip → Plan → Curve
-planned Nct7802y plan = record { settings = plan .slope .temperatures ++ (plan .slope .critical ∷ []); speeds = plan .slope .duties }
-planned F75373s plan = record { settings = plan .steps .bounds; speeds = halves (plan .steps .counts) }
-planned Nct80 plan = record { settings = []; speeds = [] }
+abbrev pub planned : Shape → Plan → Curve
+planned (Slope full) plan = record { settings = plan .slope .temperatures ++ (plan .slope .critical ∷ []); speeds = plan .slope .duties }
+planned Steps plan = record { settings = plan .steps .bounds; speeds = halves (plan .steps .counts) }
 
 -- the bytes that stand at positions
 abbrev pub valuesAt : List ℕ → List ℕ → List ℕ
@@ -30,22 +29,34 @@ abbrev pub askedDuty : ℕ → ℕ → Curve → ℕ → ℕ
 askedDuty full n curve t =
     slope full (points (map degree (take n (curve .settings))) (curve .speeds)) (degree (getD (curve .settings) n 0)) (degree t)
 
--- The speed that a curve asks of its chip at a temperature byte: the duty of chip 1, the count of chip 2. "a curve's meaning below is that of the
+-- The speed that a curve asks at a temperature byte: a duty or a count. A slope has as many points as duties. "a curve's meaning below is that of the
 -- chip in its curve mode": fan mode bits are not asked.
-abbrev pub asks : Chip → Curve → ℕ → ℕ
-asks Nct7802y curve t = askedDuty 255 4 curve t
-asks F75373s curve t = stepRule (curve .settings) (words (curve .speeds)) t
-asks Nct80 curve t = 0
+abbrev pub asks : Shape → Curve → ℕ → ℕ
+asks (Slope full) curve t = askedDuty full (length (curve .speeds)) curve t
+asks Steps curve t = stepRule (curve .settings) (words (curve .speeds)) t
 
 -- "Accepted if T1 < T2 < T3 < T4, T4 at most critical (else 6)"; "Accepted if B1 > B2 > B3 > B4 (else 6)"
-abbrev pub temperaturesInOrder : Chip → Plan → Bool
-temperaturesInOrder Nct7802y plan =
+abbrev pub temperaturesInOrder : Shape → Plan → Bool
+temperaturesInOrder (Slope full) plan =
     rising (map degree (plan .slope .temperatures)) && lastAtMost (map degree (plan .slope .temperatures)) (degree (plan .slope .critical))
-temperaturesInOrder F75373s plan = falling (plan .steps .bounds)
-temperaturesInOrder Nct80 plan = true
+temperaturesInOrder Steps plan = falling (plan .steps .bounds)
 
 -- "the duties never fall from FL1 to FL4 (else 7)"; "counts never fall from C1 to C5 (else 7)"
-abbrev pub speedsInOrder : Chip → Plan → Bool
-speedsInOrder Nct7802y plan = neverFalls (plan .slope .duties)
-speedsInOrder F75373s plan = neverFalls (plan .steps .counts)
-speedsInOrder Nct80 plan = true
+abbrev pub speedsInOrder : Shape → Plan → Bool
+speedsInOrder (Slope full) plan = neverFalls (plan .slope .duties)
+speedsInOrder Steps plan = neverFalls (plan .steps .counts)
+
+-- the fastest that a speed register can hold: "FFh", the slope's full duty; "00h"
+abbrev pub fullOf : Shape → ℕ
+fullOf (Slope full) = full
+fullOf Steps = 0x00
+
+-- "More duty is faster; a smaller count is faster": a is at least as fast as b
+abbrev pub AsFast : Shape → ℕ → ℕ → Type 0
+AsFast (Slope full) a b = MoreDuty a b
+AsFast Steps a b = LessCount a b
+
+-- the slower of two speeds
+abbrev pub slower : Shape → ℕ → ℕ → ℕ
+slower (Slope full) a b = min a b
+slower Steps a b = max a b

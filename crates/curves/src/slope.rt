@@ -1,9 +1,9 @@
-// The duty that chip 1 asks: the slope rule.
+// The duty that a slope asks.
 use crate::degrees::degree_of;
 use crate::degrees::degrees_of;
 ghost use mathlib.Core.Path.{_≡_};
 ghost use mathlib.Core.List.{map};
-ghost use Prim.Native.Nat.{_<_, _≤_};
+ghost use Prim.Native.Nat.{ℕ, _<_, _≤_};
 ghost use Rattle.curves.specs.Curves.{degree, points, mean, below, slope};
 
 // Between two points: "the floor of (FL(k-1) x (Tk - T) + FLk x (T - T(k-1))) / (Tk - T(k-1))", never a truncated difference.
@@ -17,9 +17,10 @@ fn mean(low: u8, from: u8, high: u8, to: u8, at: u8) -> u8
     ((from as u32 * down + to as u32 * up) / span) as u8
 }
 
-// Below critical: "FL1 if T is at most T1; else for the first k in 2, 3, 4 with T at most Tk" the mean, "else FL4".
+// Below critical: "FL1 if T is at most T1; else for the first k in 2, 3, 4 with T at most Tk" the mean, "else FL4". There are points, so it is
+// the same whatever is full.
 fn duty_below(degrees: [u8; 4], duties: [u8; 4], at: u8) -> u8
-    ensures { λ r. ⌜ r ≡ below 255 (points degrees duties) at ⌝ }
+    ensures { λ r. ⌜ ((full : ℕ) → r ≡ below full (points degrees duties) at) ⌝ }
 {
     if at <= degrees[0] {
         return duties[0];
@@ -33,12 +34,18 @@ fn duty_below(degrees: [u8; 4], duties: [u8; 4], at: u8) -> u8
     duties[3]
 }
 
-pub(crate) fn asked_duty(temperatures: [u8; 4], critical: u8, duties: [u8; 4], t: u8) -> u8
-    ensures { λ r. ⌜ r ≡ slope 255 (points (map degree temperatures) duties) (degree critical) (degree t) ⌝ }
+pub(crate) fn asked_duty(
+    full: u8,
+    temperatures: [u8; 4],
+    critical: u8,
+    duties: [u8; 4],
+    t: u8,
+) -> u8
+    ensures { λ r. ⌜ r ≡ slope full (points (map degree temperatures) duties) (degree critical) (degree t) ⌝ }
 {
     let at = degree_of(t);
     if degree_of(critical) <= at {
-        return 255;
+        return full;
     }
     duty_below(degrees_of(temperatures), duties, at)
 }

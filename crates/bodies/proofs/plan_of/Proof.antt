@@ -1,4 +1,4 @@
--- `bodies::plan_of` meets its contract: each arm takes the values of its chip.
+-- `bodies::plan_of` meets its contract: each arm takes the values of its shape.
 -- Assumes nothing.
 use borrow.Author.Needs.{needs}
 use Rattle.bodies.proofs.plan_of.Statement.{statement}
@@ -16,27 +16,11 @@ enum-told-2 c = search needs
 steps-in-requires : tie.Need-steps-in-requires
 steps-in-requires c κs = search needs
 
-enum-told-3 : tie.Need-enum-told-3
-enum-told-3 c = search needs
-
 returns : tie.Need-returns
 returns c = record { answer = rw (c .before .enum-told .given .1, c .slope-in .ensures) }
 
 returns-2 : tie.Need-returns-2
 returns-2 c = record { answer = rw (c .before .enum-told2 .given .1, c .steps-in .ensures) }
 
-returns-3 : tie.Need-returns-3
-returns-3 c = record { answer = rw (c .enum-told3 .given .1) }
-
 pub plan-of-spec : {M : Type 1} → statement M
-plan-of-spec =
-    tie.close
-    (tie.spec
-    enum-told
-    slope-in-requires
-    enum-told-2
-    steps-in-requires
-    enum-told-3
-    returns
-    returns-2
-    returns-3)
+plan-of-spec = tie.close (tie.spec enum-told slope-in-requires enum-told-2 steps-in-requires returns returns-2)

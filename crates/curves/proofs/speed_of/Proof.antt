@@ -1,4 +1,4 @@
--- `curves::speed_of` meets its contract: each arm asks by the rule of its chip.
+-- `curves::speed_of` meets its contract: each arm asks by the rule of its shape.
 -- Assumes nothing.
 use Rattle.curves.proofs.Owned.{plan-typed}
 use Rattle.curves.proofs.Registers.{planned-duty, planned-count}
@@ -7,8 +7,8 @@ use borrow.Author.Needs.{needs}
 use Rattle.curves.proofs.speed_of.Statement.{statement}
 use Rattle.curves.proofs.speed_of.Tie as tie
 
-enum-told : tie.Need-enum-told
-enum-told c = search needs
+enum-known-shape : tie.Need-enum-known-shape
+enum-known-shape c = search needs
 
 asked-duty-requires : tie.Need-asked-duty-requires
 asked-duty-requires c κs = search needs
@@ -16,41 +16,34 @@ asked-duty-requires c κs = search needs
 cast-result : tie.Need-cast-result
 cast-result c = search needs
 
-enum-told-2 : tie.Need-enum-told-2
-enum-told-2 c = search needs
+enum-told : tie.Need-enum-told
+enum-told c = search needs
 
 asked-count-requires : tie.Need-asked-count-requires
 asked-count-requires c κs = search needs
 
-enum-told-3 : tie.Need-enum-told-3
-enum-told-3 c = search needs
-
 returns : tie.Need-returns
 returns c =
-    let s = c .before .before .before .before .before .before in
+    let k = c .before .before .before .before .before in
+    let s = k .before .before in
     let plan = s .args .plan in
-    rw (c .before .before .before .before .enum-told .given .1)
-    (record { answer = c .asked-duty .ensures ∙ planned-duty plan (s .args .t) (plan-typed plan _ (s .good .1 .0) .sized .temperatures) })
+    rw (k .shape .given .1)
+    (record { answer = c .asked-duty .ensures ∙ planned-duty (k .shape .given .0 .0) plan (s .args .t) (plan-typed plan _ (s .good .1 .0) .sized) })
 
 returns-2 : tie.Need-returns-2
 returns-2 c =
-    let s = c .before .before .before .before .before .before in
-    rw (c .before .before .before .before .enum-told2 .given .1)
-    (record { answer = c .asked-count .ensures ∙ planned-count (s .args .plan) (s .args .t) })
-
-returns-3 : tie.Need-returns-3
-returns-3 c = search needs
+    let k = c .before .before .before .before in
+    let a = k .before .before .args in
+    rw (k .enum-told .given .1) (record { answer = c .asked-count .ensures ∙ planned-count (a .plan) (a .t) })
 
 pub speed-of-spec : {M : Type 1} → statement M
 speed-of-spec =
     tie.close
     (tie.spec
-    enum-told
+    enum-known-shape
     asked-duty-requires
     cast-result
-    enum-told-2
+    enum-told
     asked-count-requires
-    enum-told-3
     returns
-    returns-2
-    returns-3)
+    returns-2)

@@ -7,11 +7,11 @@ use Rattle.bodies.proofs.decoding.steps_in.Tie as tie
 four-at-requires : tie.Need-four-at-requires
 four-at-requires c κs = search needs
 
-counts-at-4-requires : tie.Need-counts-at-4-requires
-counts-at-4-requires c κs = search needs
+counts-in-requires : tie.Need-counts-in-requires
+counts-in-requires c κs = search needs
 
 returns : tie.Need-returns
-returns c = rw (c .before .four-at .ensures, c .counts-at-4 .ensures)
+returns c = rw (c .before .four-at .ensures, c .counts-in .ensures)
 
 pub steps-in-spec : {M : Type 1} → statement M
-steps-in-spec = tie.close (tie.spec four-at-requires counts-at-4-requires returns)
+steps-in-spec = tie.close (tie.spec four-at-requires counts-in-requires returns)

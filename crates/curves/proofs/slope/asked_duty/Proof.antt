@@ -19,7 +19,7 @@ returns : tie.Need-returns
 returns c =
     let a = c .before .before .before .args in
     let hot : degree (a .critical) ≤ degree (a .t) = omega (arith, c .before .degree-of2 .ensures, c .before .before .degree-of .ensures) in
-    slope-hot 255 _ (degree (a .critical)) (degree (a .t)) hot
+    slope-hot (a .full) _ (degree (a .critical)) (degree (a .t)) hot
 
 degrees-of-requires : tie.Need-degrees-of-requires
 degrees-of-requires c κs = search needs
@@ -32,8 +32,8 @@ returns-2 c =
     let k = c .before .before in
     let a = k .before .before .before .args in
     let cool : degree (a .t) < degree (a .critical) = omega (arith, k .before .degree-of2 .ensures, k .before .before .degree-of .ensures) in
-    c .duty-below .ensures
-    ∙ rw (c .before .degrees-of .ensures, k .before .before .degree-of .ensures) (slope-cool 255 _ (degree (a .critical)) (degree (a .t)) cool)
+    c .duty-below .ensures (a .full)
+    ∙ rw (c .before .degrees-of .ensures, k .before .before .degree-of .ensures) (slope-cool (a .full) _ (degree (a .critical)) (degree (a .t)) cool)
 
 pub asked-duty-spec : {M : Type 1} → statement M
 asked-duty-spec =

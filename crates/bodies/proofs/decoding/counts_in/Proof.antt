@@ -1,9 +1,9 @@
--- `bodies::decoding::counts_at_4` meets its contract: each count is the word of its two places.
+-- `bodies::decoding::counts_in` meets its contract: each count is the word of its two places.
 -- Assumes nothing.
 use Rattle.curves.specs.Curves.{words}
 use borrow.Author.Needs.{needs}
-use Rattle.bodies.proofs.decoding.counts_at_4.Statement.{statement}
-use Rattle.bodies.proofs.decoding.counts_at_4.Tie as tie
+use Rattle.bodies.proofs.decoding.counts_in.Statement.{statement}
+use Rattle.bodies.proofs.decoding.counts_in.Tie as tie
 
 word-at-requires : tie.Need-word-at-requires
 word-at-requires c κs = search needs
@@ -23,11 +23,12 @@ word-at-requires-5 c κs = search needs
 returns : tie.Need-returns
 unfolding words
 returns c =
-    rw
-    (c .before .before .before .before .word-at .ensures, c .before .before .before .word-at2 .ensures, c .before .before .word-at3 .ensures, c .before .word-at4 .ensures, c .word-at5 .ensures)
+    let third = c .before .before in
+    let first = third .before .before in
+    rw (first .word-at .ensures, third .before .word-at2 .ensures, third .word-at3 .ensures, c .before .word-at4 .ensures, c .word-at5 .ensures)
 
-pub counts-at-4-spec : {M : Type 1} → statement M
-counts-at-4-spec =
+pub counts-in-spec : {M : Type 1} → statement M
+counts-in-spec =
     tie.close
     (tie.spec
     word-at-requires
