@@ -7,7 +7,7 @@ use native.Mathlib.Omega.{arith}
 use mathlib.Core.Path.{_≡_, refl, sym, ap, subst, _∙_}
 use mathlib.Core.Bool.{Bool, true, false, So, cond, true≢false, _&&_}
 use mathlib.Core.List.{List, [], _∷_, map}
-use borrow.Author.Tests.{eqb-true, ltb-true, leb-true, le-leb}
+use borrow.Author.Tests.{leb-false, eqb-true, ltb-true, leb-true, le-leb}
 use lib.Bits.{bitAnd, and-mask}
 use lib.Dec.{eqb, leb, ltb}
 use lib.ListN.{length, getD, List·getD-eq-default}
@@ -40,7 +40,12 @@ pub no-number : (number count : ℕ) → (1 ≤ number → number ≤ count → 
 no-number number count h =
     neither (leb 1 number) (leb number count) (λ p q. h (leb-true 1 number p) (leb-true number count q))
 
--- where there is no table, there is no register
+-- where there is no table, none is missed
+no-table : (tables : List Table) (number : ℕ) → hasTableIn tables number ≡ false → tableIn tables number ≡ missing
+no-table tables zero e = refl
+no-table tables (suc n) e = List·getD-eq-default tables missing (omega (arith, leb-false (suc n) (length tables) (rw (le-leb 1 (suc n) (omega arith)) at e)))
+
+-- and there is no register
 pub no-register : (sheet : Sheet) (number k : ℕ) → (1 ≤ number → number ≤ length (sheet .tables) → ⊥) → registerIn sheet number k ≡ noRegister
 no-register sheet zero k h = refl
 no-register sheet (suc n) k h =
@@ -190,6 +195,9 @@ module _ (chip : Chip) (number : ℕ) where
 -- there each byte fits
 pub byte-fits : (value : ℕ) → value < 2 ^ 8 → bitAnd value 0xFF ≡ value
 byte-fits value h = and-mask value 8 ∙ mod-eq-of-lt h
+
+pub table-none : (chip : Chip) (number : ℕ) → hasTable chip number ≡ false → tableOf chip number ≡ missing
+table-none chip number = no-table (tablesOf chip) number
 
 module _ (chip : Chip) (number : ℕ) (has : So (hasTable chip number)) where
   pub table-number : (1 ≤ number) × (number ≤ length (tablesOf chip))

@@ -5,11 +5,12 @@ use mathlib.Core.Path.{_≡_, sym, _∙_}
 use Rattle.cards.specs.declared.types.Chip.{Chip}
 use Rattle.cards.specs.declared.types.Named.{Named}
 use Rattle.cards.specs.declared.types.Fan.{Fan}
+use Rattle.cards.specs.declared.types.Layout.{Layout}
 use Rattle.cards.specs.declared.types.Masks.{Masks}
 use Rattle.cards.specs.declared.types.Register.{Register}
 use Rattle.cards.specs.declared.types.Required.{Required}
 use Rattle.cards.specs.declared.types.Sizes.{Sizes}
-use Rattle.cards.specs.Contracts.{Names, Finds, PowersOn, TellsSizes, Requires, Lays, Stands}
+use Rattle.cards.specs.Contracts.{Names, Finds, PowersOn, TellsSizes, Requires, Lays, LaysOut, Stands}
 
 pub names-unique : {number : ℕ} {r s : Named} → Names number r → Names number s → r ≡ s
 names-unique p q = p .answer ∙ sym (q .answer)
@@ -28,6 +29,9 @@ requires-unique p q = p .answer ∙ sym (q .answer)
 
 pub lays-unique : {chip : Chip} {number : ℕ} {r s : Fan} → Lays chip number r → Lays chip number s → r ≡ s
 lays-unique p q = p .answer ∙ sym (q .answer)
+
+pub lays-out-unique : {chip : Chip} {number : ℕ} {r s : Layout} → LaysOut chip number r → LaysOut chip number s → r ≡ s
+lays-out-unique p q = p .answer ∙ sym (q .answer)
 
 pub stands-unique : {chip : Chip} {number k : ℕ} {r s : Register} → Stands chip number k r → Stands chip number k s → r ≡ s
 stands-unique p q = p .answer ∙ sym (q .answer)

@@ -84,6 +84,9 @@ tableOf chip number = tableIn (tablesOf chip) number
 abbrev pub shapeOf : Chip → ℕ → Shape
 shapeOf chip number = tableOf chip number .shape
 
+abbrev pub layoutOf : Chip → ℕ → Layout
+layoutOf chip number = layout (cardOf chip) (tableOf chip number)
+
 -- refusal 4: "the chip has no such fan table"
 abbrev pub noTable : ℕ → ℕ → Bool
 noTable chip number = not (whenKnown (chipOf chip) (λ c. hasTable c number) false)

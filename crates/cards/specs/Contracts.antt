@@ -9,9 +9,10 @@ use Rattle.cards.specs.declared.types.Register.{Register}
 use Rattle.cards.specs.declared.types.Required.{Required}
 use Rattle.cards.specs.declared.types.Sizes.{Sizes}
 use Rattle.cards.specs.declared.types.Fan.{Fan}
+use Rattle.cards.specs.declared.types.Layout.{Layout}
 use Rattle.cards.specs.Rows.{masksIn, requiredIn}
 use Rattle.cards.specs.Sheets.{sizesIn, laidIn, registerIn}
-use Rattle.cards.specs.Cards.{sheetOf, chipOf, rowOf}
+use Rattle.cards.specs.Cards.{sheetOf, chipOf, rowOf, layoutOf}
 
 -- what `cards::chip_of` promises
 pub record Names (number : ℕ) (named : Named) : Type 0 where
@@ -36,6 +37,10 @@ pub record Requires (chip : Chip) (k : ℕ) (required : Required) : Type 0 where
 -- what `cards::table_of` promises
 pub record Lays (chip : Chip) (number : ℕ) (fan : Fan) : Type 0 where
   pub answer : fan ≡ laidIn (sheetOf chip) number
+
+-- what `cards::layout_of` promises
+pub record LaysOut (chip : Chip) (number : ℕ) (facts : Layout) : Type 0 where
+  pub answer : facts ≡ layoutOf chip number
 
 -- what `cards::register_of` promises
 pub record Stands (chip : Chip) (number k : ℕ) (register : Register) : Type 0 where

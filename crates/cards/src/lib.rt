@@ -7,6 +7,7 @@ mod types;
 pub use types::Chip;
 pub use types::Fan;
 pub use types::Layout;
+use types::MISSING;
 pub use types::Masks;
 use types::NO_REGISTER;
 use types::NOTHING;
@@ -15,7 +16,7 @@ pub use types::Register;
 pub use types::Required;
 pub use types::Shape;
 pub use types::Sizes;
-ghost use Rattle.cards.specs.Contracts.{Names, Finds, PowersOn, TellsSizes, Requires, Lays, Stands};
+ghost use Rattle.cards.specs.Contracts.{Names, Finds, PowersOn, TellsSizes, Requires, Lays, LaysOut, Stands};
 
 // How many bytes an image has at most.
 pub const GREATEST: usize = 256;
@@ -84,6 +85,16 @@ pub fn table_of(chip: Chip, number: u8) -> Fan
         Chip::Nct7802y => nct7802y::table(number),
         Chip::F75373s => f75373s::table(number),
         Chip::Nct80 => Fan::Nothing,
+    }
+}
+
+// How the fan table of a number is laid out; where there is none, without a register.
+pub fn layout_of(chip: Chip, number: u8) -> Layout
+    ensures { λ r. ⌜ LaysOut chip number r ⌝ }
+{
+    match table_of(chip, number) {
+        Fan::Laid(layout) => layout,
+        Fan::Nothing => MISSING,
     }
 }
 

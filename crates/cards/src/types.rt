@@ -88,6 +88,14 @@ pub(crate) const NO_REGISTER: Register = Register {
     masks: NO_MASKS,
 };
 
+// The table of a number that has none.
+pub(crate) const MISSING: Layout = Layout {
+    settings: 0,
+    speeds: 0,
+    shape: Shape::Steps,
+    whole: true,
+};
+
 // No bit of any register.
 pub(crate) const NOTHING: Required = Required {
     position: 0,
