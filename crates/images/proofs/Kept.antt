@@ -4,7 +4,7 @@ use Prim.Native.Nat.{ℕ, zero, suc, _+_, _*_, _/_, _%_, _^_, _<_, min}
 use native.Mathlib.Nat.{pow-suc, min-zero}
 use native.Mathlib.Omega.{arith}
 use mathlib.Core.Path.{_≡_, refl, sym, ap, ap₂, subst, _∙_}
-use mathlib.Core.Bool.{Bool, true, false, So, cond, _&&_}
+use mathlib.Core.Bool.{Bool, true, false, So, _&&_}
 use mathlib.Core.List.{List, [], _∷_}
 use borrow.Author.Tests.{eqb-true, eqb-false, lt-ltb, ltb-true, ltb-false}
 use lib.Arith.{lt-one}
@@ -15,15 +15,15 @@ use lib.Seq.{getD-set-same, set-out}
 use Rattle.cards.specs.declared.types.Chip.{Chip}
 use Rattle.cards.specs.declared.types.Chip.the-variants.{Nct7802y, F75373s}
 use Rattle.cards.specs.declared.types.Required.{Required}
-use Rattle.cards.specs.Rows.{Row, rowIn}
+use Rattle.cards.specs.Rows.{every, Row, masksIn, rowIn}
 use Rattle.cards.specs.Sheets.{Sheet}
 use Rattle.cards.specs.Cards.{sheetOf, rowOf, powerOn}
 use Rattle.cards.specs.Identity.{allHold, agrees, confirmed}
-use Rattle.cards.proofs.Every.{every, both}
+use Rattle.cards.proofs.Every.{both}
 use Rattle.cards.proofs.Sound.{fixed, lasting, sound-sheet}
 use Rattle.images.specs.Bytes.{storedBit, storedBits, stored, storedAt, placed, position, written}
 use Rattle.images.proofs.Digits.{bit, digit}
-use Rattle.images.proofs.Laws.{storedAt-other}
+use Rattle.images.proofs.Laws.{storedAt-other, stored-half, stored-last}
 
 agrees-where-some : (image : List ℕ) (rs : List Required) → So (allHold image rs) → agrees image rs ≡ ltb 0 (length rs)
 agrees-where-some image [] t = refl
@@ -55,14 +55,6 @@ kept-digit w c m o x =
     (λ cb. digit (λ m'. min (bit wb) m' ≡ 0 → min (bit cb) m' ≡ 0 → min (storedBit (bit wb) (bit cb) o x) m' ≡ min o m')
     (λ mb. kept-bit wb cb mb o x) m) c) w
 
-one-bit : (w c o x : ℕ) → o < 2 → x < 2 → storedBit w c o x < 2
-one-bit w c o x p q = one-of (eqb w 1) (eqb c 1 && eqb x 1)
-  where
-    one-of : (s t : Bool) → cond s x (cond t 0 o) < 2
-    one-of true t = q
-    one-of false true = omega arith
-    one-of false false = p
-
 -- of n bits, those that count are kept where none of them is writable or a clear bit
 kept-bits : (n w c m o x : ℕ) → m < 2 ^ n → bitAnd w m ≡ 0 → bitAnd c m ≡ 0 → bitAnd (storedBits n w c o x) m ≡ bitAnd o m
 kept-bits zero w c m o x h p q =
@@ -70,17 +62,14 @@ kept-bits zero w c m o x h p q =
 kept-bits (suc n) w c m o x h p q =
     let pw : bitAnd (w / 2) (m / 2) * 2 + min (w % 2) (m % 2) ≡ 0 = sym (and-step w m) ∙ p in
     let pc : bitAnd (c / 2) (m / 2) * 2 + min (c % 2) (m % 2) ≡ 0 = sym (and-step c m) ∙ q in
-    let small : storedBit (w % 2) (c % 2) (o % 2) (x % 2) < 2 = one-bit (w % 2) (c % 2) (o % 2) (x % 2) (omega arith) (omega arith) in
-    let half : storedBits (suc n) w c o x / 2 ≡ storedBits n (w / 2) (c / 2) (o / 2) (x / 2) = omega arith in
-    let last : storedBits (suc n) w c o x % 2 ≡ storedBit (w % 2) (c % 2) (o % 2) (x % 2) = omega arith in
     let less : m / 2 < 2 ^ n = omega (arith, rw pow-suc at h) in
     and-step (storedBits (suc n) w c o x) m
     ∙ ap₂ (λ (a b : ℕ). a * 2 + b)
-    (ap (λ (y : ℕ). bitAnd y (m / 2)) half ∙ kept-bits n (w / 2) (c / 2) (m / 2) (o / 2) (x / 2) less (omega arith) (omega arith))
-    (ap (λ (y : ℕ). min y (m % 2)) last ∙ kept-digit w c m (o % 2) (x % 2) (omega arith) (omega arith))
+    (ap (λ (y : ℕ). bitAnd y (m / 2)) (stored-half n w c o x) ∙ kept-bits n (w / 2) (c / 2) (m / 2) (o / 2) (x / 2) less (omega arith) (omega arith))
+    (ap (λ (y : ℕ). min y (m % 2)) (stored-last n w c o x) ∙ kept-digit w c m (o % 2) (x % 2) (omega arith) (omega arith))
     ∙ sym (and-step o m)
 
-kept-byte : (row : Row) (bits old byte : ℕ) → So (fixed row bits) → bitAnd (stored row old byte) bits ≡ bitAnd old bits
+kept-byte : (row : Row) (bits old byte : ℕ) → So (fixed row bits) → bitAnd (stored (masksIn row) old byte) bits ≡ bitAnd old bits
 unfolding stored
 kept-byte row bits old byte t =
     let parts = both (ltb bits (2 ^ 8)) _ t in
@@ -90,12 +79,12 @@ kept-byte row bits old byte t =
 
 -- a write at a position keeps what identity sees at that position ..
 seen-there : (row : Row) (position byte : ℕ) (image : List ℕ) (bits : ℕ) → So (fixed row bits)
-    → bitAnd (getD (storedAt row position byte image) position 0) bits ≡ bitAnd (getD image position 0) bits
+    → bitAnd (getD (storedAt (masksIn row) position byte image) position 0) bits ≡ bitAnd (getD image position 0) bits
 unfolding storedAt
 seen-there row position byte image bits t = by-place (ltb position (length image)) refl
   where
     new : ℕ
-    new = stored row (getD image position 0) byte
+    new = stored (masksIn row) (getD image position 0) byte
 
     by-place : (inside : Bool) → ltb position (length image) ≡ inside
         → bitAnd (getD (set image position new) position 0) bits ≡ bitAnd (getD image position 0) bits
@@ -106,20 +95,20 @@ seen-there row position byte image bits t = by-place (ltb position (length image
 
 -- .. and at every other
 seen : (row : Row) (position byte : ℕ) (image : List ℕ) (address bits : ℕ) → (address ≡ position → So (fixed row bits))
-    → bitAnd (getD (storedAt row position byte image) address 0) bits ≡ bitAnd (getD image address 0) bits
+    → bitAnd (getD (storedAt (masksIn row) position byte image) address 0) bits ≡ bitAnd (getD image address 0) bits
 seen row position byte image address bits t = by-place (eqb address position) refl
   where
     by-place : (there : Bool) → eqb address position ≡ there
-        → bitAnd (getD (storedAt row position byte image) address 0) bits ≡ bitAnd (getD image address 0) bits
+        → bitAnd (getD (storedAt (masksIn row) position byte image) address 0) bits ≡ bitAnd (getD image address 0) bits
     by-place true e =
         let same = eqb-true address position e in
         rw same (seen-there row position byte image bits (t same))
     by-place false e =
-        ap (λ (y : ℕ). bitAnd y bits) (storedAt-other row position byte image address (eqb-false address position e))
+        ap (λ (y : ℕ). bitAnd y bits) (storedAt-other (masksIn row) position byte image address (eqb-false address position e))
 
 -- the test over a page's identity, carried to every write
 kept : (sheet : Sheet) (position byte : ℕ) (image : List ℕ) (rs : List Required) → So (every (lasting sheet) rs)
-    → allHold (storedAt (rowIn (sheet .card) position) position byte image) rs ≡ allHold image rs
+    → allHold (storedAt (masksIn (rowIn (sheet .card) position)) position byte image) rs ≡ allHold image rs
 kept sheet position byte image [] t = refl
 kept sheet position byte image (r ∷ rs) t =
     let parts = both (lasting sheet r) _ t in
@@ -131,7 +120,7 @@ kept sheet position byte image (r ∷ rs) t =
     (kept sheet position byte image rs (parts .1))
 
 agrees-kept : (sheet : Sheet) (position byte : ℕ) (image : List ℕ) (rs : List Required) → So (every (lasting sheet) rs)
-    → agrees (storedAt (rowIn (sheet .card) position) position byte image) rs ≡ agrees image rs
+    → agrees (storedAt (masksIn (rowIn (sheet .card) position)) position byte image) rs ≡ agrees image rs
 agrees-kept sheet position byte image [] t = refl
 agrees-kept sheet position byte image (r ∷ rs) t = kept sheet position byte image (r ∷ rs) t
 

@@ -1,55 +1,86 @@
--- What a byte write does to an image, for whoever plays several: its length and every other byte stay, a row with mask FFh takes the byte, and a
--- row without masks changes nothing. The two rows go bit by bit, by induction over the number of bits.
+-- What a byte write does to an image, for whoever plays several: its length and every other byte stay, a register takes a value that fits its
+-- writable bits, and one without masks changes nothing. The last two go bit by bit, by induction over the number of bits.
 -- Assumes nothing.
-use Prim.Native.Nat.{ℕ, zero, suc, _-_, _/_, _%_, _^_, _<_}
-use native.Mathlib.Nat.{pow-suc}
+use Prim.Native.Nat.{ℕ, zero, suc, _+_, _*_, _/_, _%_, _^_, _<_, min}
+use native.Mathlib.Nat.{pow-suc, min-zero}
 use native.Mathlib.Omega.{arith}
-use mathlib.Core.Path.{_≡_, refl, sym, ap, _∙_}
+use mathlib.Core.Path.{_≡_, refl, sym, ap, ap₂, _∙_}
+use mathlib.Core.Bool.{Bool, true, false, cond, _&&_}
 use mathlib.Core.List.{List}
 use borrow.Author.Tests.{eq-eqb}
 use lib.Arith.{lt-one}
+use lib.Bits.{bitAnd, and-step}
+use lib.Dec.{eqb}
 use lib.ListN.{length, getD, set, length-set}
 use lib.Seq.{getD-set-same, getD-set-other, set-getD}
 use Rattle.refusal.specs.declared.Outcome.{Outcome}
 use Rattle.refusal.specs.Answers.{tells}
 use Rattle.cards.specs.declared.types.Chip.{Chip}
 use Rattle.cards.specs.declared.types.Named.the-variants.{Known}
-use Rattle.cards.specs.Rows.{Row}
+use Rattle.cards.specs.declared.types.Masks.{Masks}
+use Rattle.cards.specs.Rows.{masksIn}
 use Rattle.cards.specs.Cards.{chipOf, rowOf, sizeOf}
-use Rattle.images.specs.Bytes.{storedBits, stored, storedAt, position, seen}
+use Rattle.images.specs.Bytes.{storedBit, storedBits, stored, storedAt, position, seen}
 use Rattle.images.specs.Contracts.{WritesByte}
+use Rattle.images.proofs.Digits.{bit, digit}
 
 -- the image keeps its length
-pub storedAt-length : (row : Row) (position byte : ℕ) (image : List ℕ) → length (storedAt row position byte image) ≡ length image
+pub storedAt-length : (masks : Masks) (position byte : ℕ) (image : List ℕ) → length (storedAt masks position byte image) ≡ length image
 unfolding storedAt
-storedAt-length row position byte image = length-set image position (stored row (getD image position 0) byte)
+storedAt-length masks position byte image = length-set image position (stored masks (getD image position 0) byte)
 
 -- "Every other address keeps its byte."
-pub storedAt-other : (row : Row) (position byte : ℕ) (image : List ℕ) (k : ℕ) → (k ≡ position → ⊥)
-    → getD (storedAt row position byte image) k 0 ≡ getD image k 0
+pub storedAt-other : (masks : Masks) (position byte : ℕ) (image : List ℕ) (k : ℕ) → (k ≡ position → ⊥)
+    → getD (storedAt masks position byte image) k 0 ≡ getD image k 0
 unfolding storedAt
-storedAt-other row position byte image k h = getD-set-other image position k (stored row (getD image position 0) byte) 0 h
+storedAt-other masks position byte image k h = getD-set-other image position k (stored masks (getD image position 0) byte) 0 h
 
--- all ones: every bit is the new one
-all-writable : (n c o x : ℕ) → x < 2 ^ n → storedBits n (2 ^ n - 1) c o x ≡ x
-all-writable zero c o x h = sym (lt-one h)
-all-writable (suc n) c o x h =
-    let high : (2 ^ suc n - 1) / 2 ≡ 2 ^ n - 1 = rw pow-suc (omega (arith, rw pow-suc at h)) in
-    let low : (2 ^ suc n - 1) % 2 ≡ 1 = rw pow-suc (omega (arith, rw pow-suc at h)) in
+-- a stored bit is a bit
+one-bit : (w c o x : ℕ) → o < 2 → x < 2 → storedBit w c o x < 2
+one-bit w c o x p q = one-of (eqb w 1) (eqb c 1 && eqb x 1)
+  where
+    one-of : (s t : Bool) → cond s x (cond t 0 o) < 2
+    one-of true t = q
+    one-of false true = omega arith
+    one-of false false = p
+
+-- so those above the last are stored by themselves, and the last is
+pub stored-half : (n w c o x : ℕ) → storedBits (suc n) w c o x / 2 ≡ storedBits n (w / 2) (c / 2) (o / 2) (x / 2)
+stored-half n w c o x =
+    let small : storedBit (w % 2) (c % 2) (o % 2) (x % 2) < 2 = one-bit (w % 2) (c % 2) (o % 2) (x % 2) (omega arith) (omega arith) in
+    omega arith
+
+pub stored-last : (n w c o x : ℕ) → storedBits (suc n) w c o x % 2 ≡ storedBit (w % 2) (c % 2) (o % 2) (x % 2)
+stored-last n w c o x =
+    let small : storedBit (w % 2) (c % 2) (o % 2) (x % 2) < 2 = one-bit (w % 2) (c % 2) (o % 2) (x % 2) (omega arith) (omega arith) in
+    omega arith
+
+-- a writable bit is the new one
+taken-bit : (w c o x : ℕ) → min (storedBit (w % 2) c o x) (w % 2) ≡ min x (w % 2)
+taken-bit w c o x = digit (λ w'. min (storedBit w' c o x) w' ≡ min x w') of-bit w
+  where
+    of-bit : (b : Bool) → min (storedBit (bit b) c o x) (bit b) ≡ min x (bit b)
+    of-bit false = min-zero (storedBit 0 c o x) ∙ sym (min-zero x)
+    of-bit true = refl
+
+taken-bits : (n w c o x : ℕ) → x < 2 ^ n → bitAnd (storedBits n w c o x) w ≡ bitAnd x w
+taken-bits zero w c o x h = ap (λ (y : ℕ). bitAnd y w) (sym (lt-one h))
+taken-bits (suc n) w c o x h =
     let less : x / 2 < 2 ^ n = omega (arith, rw pow-suc at h) in
-    rw (high, low, all-writable n (c / 2) (o / 2) (x / 2) less) (omega arith)
+    and-step (storedBits (suc n) w c o x) w
+    ∙ ap₂ (λ (a b : ℕ). a * 2 + b)
+    (ap (λ (y : ℕ). bitAnd y (w / 2)) (stored-half n w c o x) ∙ taken-bits n (w / 2) (c / 2) (o / 2) (x / 2) less)
+    (ap (λ (y : ℕ). min y (w % 2)) (stored-last n w c o x) ∙ taken-bit w (c % 2) (o % 2) (x % 2))
+    ∙ sym (and-step x w)
 
--- a row with mask FFh stores the byte
-pub stored-full : (row : Row) (old byte : ℕ) → row .writable ≡ 0xFF → byte < 2 ^ 8 → stored row old byte ≡ byte
-unfolding stored
-stored-full row old byte e h = rw e (all-writable 8 (row .clears) old byte h)
-
--- so a write of a byte to such a row is seen there afterwards
-pub storedAt-full : (row : Row) (position byte : ℕ) (image : List ℕ) → row .writable ≡ 0xFF → byte < 2 ^ 8 → position < length image
-    → getD (storedAt row position byte image) position 0 ≡ byte
-unfolding storedAt
-storedAt-full row position byte image e h inside =
-    getD-set-same image position (stored row (getD image position 0) byte) 0 inside ∙ stored-full row (getD image position 0) byte e h
+-- so a value that fits the writable bits is seen there afterwards, whatever they are
+pub storedAt-takes : (masks : Masks) (position value : ℕ) (image : List ℕ) → bitAnd value (masks .writable) ≡ value → value < 2 ^ 8
+    → position < length image → bitAnd (getD (storedAt masks position value image) position 0) (masks .writable) ≡ value
+unfolding storedAt stored
+storedAt-takes masks position value image fits h inside =
+    ap (λ (y : ℕ). bitAnd y (masks .writable)) (getD-set-same image position (stored masks (getD image position 0) value) 0 inside)
+    ∙ taken-bits 8 (masks .writable) (masks .clears) (getD image position 0) value h
+    ∙ fits
 
 -- Where an access lands. This alone opens `position`: what lies above goes by this law, or by positions.
 pub lands : (chip : Chip) (image : List ℕ) (address : ℕ) → position chip image address ≡ address
@@ -63,17 +94,17 @@ none-writable (suc n) o x h =
     let less : o / 2 < 2 ^ n = omega (arith, rw pow-suc at h) in
     rw (none-writable n (o / 2) (x / 2) less) (omega arith)
 
--- a row without masks keeps the old byte
-pub stored-closed : (row : Row) (old byte : ℕ) → row .writable ≡ 0 → row .clears ≡ 0 → old < 2 ^ 8 → stored row old byte ≡ old
+-- without masks the old byte is kept
+pub stored-closed : (masks : Masks) (old byte : ℕ) → masks .writable ≡ 0 → masks .clears ≡ 0 → old < 2 ^ 8 → stored masks old byte ≡ old
 unfolding stored
-stored-closed row old byte e f h = rw (e, f) (none-writable 8 old byte h)
+stored-closed masks old byte e f h = rw (e, f) (none-writable 8 old byte h)
 
 -- and so the image
-pub storedAt-closed : (row : Row) (position byte : ℕ) (image : List ℕ) → row .writable ≡ 0 → row .clears ≡ 0 → getD image position 0 < 2 ^ 8
-    → storedAt row position byte image ≡ image
+pub storedAt-closed : (masks : Masks) (position byte : ℕ) (image : List ℕ) → masks .writable ≡ 0 → masks .clears ≡ 0 → getD image position 0 < 2 ^ 8
+    → storedAt masks position byte image ≡ image
 unfolding storedAt
-storedAt-closed row position byte image e f h =
-    ap (set image position) (stored-closed row (getD image position 0) byte e f h) ∙ set-getD image position 0
+storedAt-closed masks position byte image e f h =
+    ap (set image position) (stored-closed masks (getD image position 0) byte e f h) ∙ set-getD image position 0
 
 -- "A write to a row without masks is accepted and changes nothing."
 pub write-closed : (number : ℕ) (chip : Chip) (address byte : ℕ) (old : List ℕ) {r : Outcome} {new : List ℕ}
@@ -83,4 +114,4 @@ pub write-closed : (number : ℕ) (chip : Chip) (address byte : ℕ) (old : List
 write-closed number chip address byte old named long e f h p =
     let size = eq-eqb (length old) (sizeOf chip) long in
     let at = position chip old address in
-    (p .answer ∙ simp (named, size), p .bytes ∙ simp (named, size) (storedAt-closed (rowOf chip at) at byte old e f h))
+    (p .answer ∙ simp (named, size), p .bytes ∙ simp (named, size) (storedAt-closed (masksIn (rowOf chip at)) at byte old e f h))

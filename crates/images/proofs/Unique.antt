@@ -6,10 +6,11 @@ use mathlib.Core.List.{List}
 use Rattle.refusal.proofs.Numbers.{numberOf-injective, not-accepted}
 use Rattle.refusal.proofs.Answers.{tells-injective}
 use Rattle.refusal.specs.declared.Outcome.{Outcome}
+use Rattle.cards.specs.declared.types.Register.{Register}
 use Rattle.images.specs.declared.Admitted.{Admitted}
 use Rattle.images.specs.declared.ByteRead.{ByteRead}
 use Rattle.images.specs.declared.ByteRead.the-variants as byteRead
-use Rattle.images.specs.Contracts.{tellsByte, Admits, WritesByte, ReadsByte, Resets}
+use Rattle.images.specs.Contracts.{tellsByte, Admits, Places, WritesByte, ReadsByte, Resets}
 
 pub tellsByte-injective : (r s : ByteRead) → tellsByte r ≡ tellsByte s → r ≡ s
 tellsByte-injective (byteRead.Byte b) (byteRead.Byte d) e = ap byteRead.Byte (ap (λ (t : ℕ × ℕ). t .1) e)
@@ -19,6 +20,9 @@ tellsByte-injective (byteRead.Refused p) (byteRead.Refused q) e = ap byteRead.Re
 
 pub admits-unique : {chip size : ℕ} {r s : Admitted} → Admits chip size r → Admits chip size s → r ≡ s
 admits-unique p q = p .answer ∙ sym (q .answer)
+
+pub places-unique : {register : Register} {byte : ℕ} {old l m : List ℕ} → Places register byte old l → Places register byte old m → l ≡ m
+places-unique p q = p .bytes ∙ sym (q .bytes)
 
 pub writes-unique : {chip : ℕ} {old : List ℕ} {address byte : ℕ} {r s : Outcome} {l m : List ℕ}
     → WritesByte chip old address byte r l → WritesByte chip old address byte s m → (r ≡ s) × (l ≡ m)

@@ -6,7 +6,8 @@ use mathlib.Core.List.{List}
 use lib.Dec.{eqb}
 use lib.ListN.{getD, set}
 use Rattle.cards.specs.declared.types.Chip.{Chip}
-use Rattle.cards.specs.Rows.{Row}
+use Rattle.cards.specs.declared.types.Masks.{Masks}
+use Rattle.cards.specs.Rows.{masksIn}
 use Rattle.cards.specs.Cards.{rowOf}
 
 -- "A byte write to an address replaces the writable bits, clears those clear bits where a 1 is written, and keeps the others."
@@ -19,16 +20,16 @@ storedBits zero writable clears old new = 0
 storedBits (suc n) writable clears old new =
     storedBits n (writable / 2) (clears / 2) (old / 2) (new / 2) * 2 + storedBit (writable % 2) (clears % 2) (old % 2) (new % 2)
 
-unfoldable pub stored : Row → ℕ → ℕ → ℕ
-stored row old new = storedBits 8 (row .writable) (row .clears) old new
+unfoldable pub stored : Masks → ℕ → ℕ → ℕ
+stored masks old new = storedBits 8 (masks .writable) (masks .clears) old new
 
--- "Every other address keeps its byte": a write at a position of the image, by the row of that position
-unfoldable pub storedAt : Row → ℕ → ℕ → List ℕ → List ℕ
-storedAt row position byte image = set image position (stored row (getD image position 0) byte)
+-- "Every other address keeps its byte": a write at a position of the image, by the masks of that position
+unfoldable pub storedAt : Masks → ℕ → ℕ → List ℕ → List ℕ
+storedAt masks position byte image = set image position (stored masks (getD image position 0) byte)
 
 -- .. and so by a chip's card
 abbrev pub placed : Chip → ℕ → ℕ → List ℕ → List ℕ
-placed chip position byte image = storedAt (rowOf chip position) position byte image
+placed chip position byte image = storedAt (masksIn (rowOf chip position)) position byte image
 
 -- Where a bus access lands: the position is the address. Chip 1: "its image is bank 0, which counts as selected whatever 00h holds".
 unfoldable pub position : Chip → List ℕ → ℕ → ℕ

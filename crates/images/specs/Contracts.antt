@@ -8,12 +8,13 @@ use Rattle.refusal.specs.declared.Outcome.{Outcome}
 use Rattle.refusal.specs.Refusals.{numberOf}
 use Rattle.refusal.specs.Answers.{tells}
 use Rattle.refusal.specs.Checks.{Check, first, told, left}
+use Rattle.cards.specs.declared.types.Register.{Register}
 use Rattle.cards.specs.Cards.{chipOf, chipNumber, whenKnown, unknown, notOfSize, powerOn}
 use Rattle.images.specs.declared.Admitted.{Admitted}
 use Rattle.images.specs.declared.Admitted.the-variants.{Known, Refused}
 use Rattle.images.specs.declared.ByteRead.{ByteRead}
 use Rattle.images.specs.declared.ByteRead.the-variants as byteRead
-use Rattle.images.specs.Bytes.{written, seen}
+use Rattle.images.specs.Bytes.{storedAt, written, seen}
 use Rattle.images.specs.Images.{admitted}
 
 -- the paper's number and the byte of an answer
@@ -37,6 +38,10 @@ tellsAdmitted (Refused r) = (numberOf r, 0)
 -- what `images::admit` promises
 pub record Admits (chip size : ℕ) (r : Admitted) : Type 0 where
   pub answer : r ≡ admitted chip size
+
+-- what `images::place` promises. Behind the image's end nothing changes.
+pub record Places (register : Register) (byte : ℕ) (old new : List ℕ) : Type 0 where
+  pub bytes : new ≡ storedAt (register .masks) (register .position) byte old
 
 -- what `images::write` promises
 pub record WritesByte (chip : ℕ) (old : List ℕ) (address byte : ℕ) (r : Outcome) (new : List ℕ) : Type 0 where

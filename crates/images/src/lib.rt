@@ -3,15 +3,18 @@ mod bus;
 mod bytes;
 
 use cards::Chip;
+use cards::GREATEST;
 use cards::Named;
+use cards::Register;
 use refusal::Outcome;
 use refusal::Refusal;
 ghost use Prim.Native.Nat.{_≤_};
 ghost use mathlib.Core.Path.{_≡_};
 ghost use lib.ListN.{length, take};
 ghost use Rattle.cards.specs.Rows.{column};
+ghost use Rattle.cards.specs.Sheets.{greatest};
 ghost use Rattle.cards.specs.Cards.{rowOf};
-ghost use Rattle.images.specs.Contracts.{Admits, WritesByte, ReadsByte, Resets};
+ghost use Rattle.images.specs.Contracts.{Admits, Places, WritesByte, ReadsByte, Resets};
 
 // The chip that an image is asked of.
 pub enum Admitted {
@@ -40,6 +43,17 @@ pub fn admit(chip: u8, size: usize) -> Admitted
     }
 }
 
+// Writes a byte to a register of the image, as far as its masks let it be written. Behind the image's end is no register.
+pub fn place(image: &mut [u8], register: Register, byte: u8)
+    ensures { λ r. ⌜ Places register byte (now (image .entry)) (now (image .exit)) ⌝ }
+{
+    let at = register.position;
+    if at < image.len() {
+        let old = image[at];
+        image[at] = bytes::stored(register.masks, old, byte);
+    }
+}
+
 // Writes a byte to an address of the image, as far as the chip's card lets it be written.
 pub fn write(chip: u8, image: &mut [u8], address: u8, byte: u8) -> Outcome
     ensures { λ r. ⌜ WritesByte chip (now (image .entry)) address byte r (now (image .exit)) ⌝ }
@@ -64,18 +78,18 @@ pub fn read(chip: u8, image: &[u8], address: u8) -> ByteRead
 }
 
 // The power-on column of a chip's card, filled into a working image. No chip's image is longer.
-fn power_on_image(chip: Chip) -> [u8; 256]
-    ensures { λ r. ⌜ r ≡ column 256 (λ position. rowOf chip position .power) ⌝ }
+fn power_on_image(chip: Chip) -> [u8; GREATEST]
+    ensures { λ r. ⌜ r ≡ column greatest (λ position. rowOf chip position .power) ⌝ }
 {
-    let mut working = [0u8; 256];
-    for at in 0..256 {
+    let mut working = [0u8; GREATEST];
+    for at in 0..GREATEST {
         working[at] = cards::power_on_of(chip, at);
     }
     working
 }
 
-fn copy(image: &mut [u8], working: [u8; 256])
-    requires { ⌜ length (now image) ≤ 256 ⌝ }
+fn copy(image: &mut [u8], working: [u8; GREATEST])
+    requires { ⌜ length (now image) ≤ greatest ⌝ }
     ensures { λ r. ⌜ now (image .exit) ≡ take (length (now (image .entry))) working ⌝ }
 {
     for at in 0..image.len() {

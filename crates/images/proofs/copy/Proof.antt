@@ -1,6 +1,7 @@
 -- `images::copy` meets its contract: the places passed hold the bytes of the working image.
 -- Assumes nothing.
 use Rattle.images.proofs.Filling.{Filled, filled-none, filled-more, filled-all}
+use Rattle.cards.specs.Sheets.{greatest}
 use lib.ListN.{length, getD, take, length-take}
 use lib.Seq.{getD-take}
 use native.Mathlib.Omega.{arith}
@@ -40,7 +41,7 @@ same-length c = search needs
 returns : tie.Need-returns Inv-loop μ-loop
 returns c =
     let a = c .before .before .args in
-    let long : length (a .t2) ≡ 256 = search needs in
+    let long : length (a .t2) ≡ greatest = search needs in
     filled-all (c .before .loop .inv .0) (omega (arith, c .before .loop .inv .1)) (take (length (a .image .now)) (a .t2))
     (length-take (length (a .image .now)) (a .t2) ∙ omega (arith, long, c .before .before .pre))
     (λ k h. getD-take (length (a .image .now)) (a .t2) k 0 h)

@@ -2,6 +2,7 @@
 -- Assumes nothing.
 use Rattle.cards.proofs.Columns.{column-length, column-at}
 use Rattle.cards.specs.Rows.{column}
+use Rattle.cards.specs.Sheets.{greatest}
 use Rattle.cards.specs.Cards.{rowOf}
 use Rattle.images.proofs.Filling.{Filled, filled-none, filled-more, filled-all}
 use Prim.Native.Nat.{_-_}
@@ -12,10 +13,10 @@ use Rattle.images.proofs.power_on_image.Statement.{statement}
 use Rattle.images.proofs.power_on_image.Tie as tie
 
 abbrev Inv-loop : tie.InvT-loop
-Inv-loop chip working₀ at₀ working at = Filled (λ k. rowOf chip k .power) 256 working at
+Inv-loop chip working₀ at₀ working at = Filled (λ k. rowOf chip k .power) greatest working at
 
 abbrev μ-loop : tie.MeasureT-loop
-μ-loop chip working₀ at₀ working at = 256 - at
+μ-loop chip working₀ at₀ working at = greatest - at
 
 loop-holds : tie.Need-loop-holds Inv-loop μ-loop
 loop-holds c = filled-none _ _ _ refl
@@ -38,8 +39,9 @@ loop-again c =
 
 returns : tie.Need-returns Inv-loop μ-loop
 returns c =
-    filled-all (c .before .loop .inv) (omega (arith, c .loop-test .left)) (column 256 (λ k. rowOf (c .before .before .args .chip) k .power)) (column-length 256 _)
-    (column-at 256 _)
+    filled-all (c .before .loop .inv) (omega (arith, c .loop-test .left))
+    (column greatest (λ k. rowOf (c .before .before .args .chip) k .power)) (column-length greatest _)
+    (column-at greatest _)
 
 pub power-on-image-spec : {M : Type 1} → statement M
 power-on-image-spec =

@@ -7,7 +7,7 @@ use mathlib.Core.List.{List}
 use lib.ListN.{take}
 use Rattle.refusal.proofs.Passed.{when-passed, when-refused}
 use Rattle.cards.specs.declared.types.Named.{Named}
-use Rattle.cards.specs.Sheets.{powerOnIn}
+use Rattle.cards.specs.Sheets.{greatest, powerOnIn}
 use Rattle.cards.specs.Cards.{sheetOf, rowOf, powerOn, whenKnown}
 use Rattle.cards.proofs.Columns.{column-front}
 use Rattle.cards.proofs.Sound.{sound-sheet}
@@ -56,7 +56,7 @@ returns-2 c =
       answer = sym none;
       bytes = c .before .before .copy .ensures
           ∙ ap₂ (λ (n : ℕ) (l : List ℕ). take n l) (K .long) (c .before .before .before .before .power-on-image .ensures)
-          ∙ column-front 256 (sheetOf chip .size) (λ p. rowOf chip p .power) (sound-sheet chip .size)
+          ∙ column-front greatest (sheetOf chip .size) (λ p. rowOf chip p .power) (sound-sheet chip .size)
           ∙ sym (ap (λ (n : Named). whenKnown n powerOn (a .image .now)) (K .named))
           ∙ when-passed _ (a .image .now) none;
     }

@@ -1,8 +1,9 @@
--- `images::bus::store` meets its contract: inside the image by the row of the position; behind its end there is nothing to change.
+-- `images::bus::store` meets its contract: the register where the access lands is written by its masks.
 -- Assumes nothing.
-use mathlib.Core.Path.{sym}
-use lib.Seq.{set-out}
-use Rattle.images.specs.Bytes.{stored, storedAt}
+use Prim.Native.Nat.{ℕ}
+use mathlib.Core.Path.{ap, _∙_}
+use Rattle.cards.specs.declared.types.Masks.{Masks}
+use Rattle.images.specs.Bytes.{storedAt, placed}
 use borrow.Author.Needs.{needs}
 use Rattle.images.proofs.bus.store.Statement.{statement}
 use Rattle.images.proofs.bus.store.Tie as tie
@@ -13,39 +14,19 @@ position-requires c κs = search needs
 masks-of-requires : tie.Need-masks-of-requires
 masks-of-requires c κs = search needs
 
-slice-read-old : tie.Need-slice-read-old
-slice-read-old c = search needs
-
-stored-requires : tie.Need-stored-requires
-stored-requires c κs = search needs
-
-slice-write-image : tie.Need-slice-write-image
-slice-write-image c = search needs
+place-requires : tie.Need-place-requires
+place-requires c κs = search needs
 
 same-length : tie.Need-same-length
 same-length c = search needs
 
 returns : tie.Need-returns
-unfolding stored storedAt
-returns c = rw (sym (c .before .before .before .before .position .ensures), c .stored .ensures, c .before .before .masks-of .ensures .answer)
-
-same-length-2 : tie.Need-same-length-2
-same-length-2 c = search needs
-
-returns-2 : tie.Need-returns-2
-unfolding storedAt
-returns-2 c = sym (set-out _ _ _ (rw (sym (c .before .position .ensures)) (c .if1 .left)))
+returns c =
+    let k = c .before .before .before .before in
+    let a = k .before .before .before .before .args in
+    c .before .before .place .ensures .bytes
+    ∙ ap (λ (masks : Masks). storedAt masks (k .before .position .result) (a .byte) (a .image .now)) (k .masks-of .ensures .answer)
+    ∙ ap (λ (at : ℕ). placed (a .chip) at (a .byte) (a .image .now)) (k .before .position .ensures)
 
 pub store-spec : {M : Type 1} → statement M
-store-spec =
-    tie.close
-    (tie.spec
-    position-requires
-    masks-of-requires
-    slice-read-old
-    stored-requires
-    slice-write-image
-    same-length
-    returns
-    same-length-2
-    returns-2)
+store-spec = tie.close (tie.spec position-requires masks-of-requires place-requires same-length returns)
