@@ -10,7 +10,7 @@ use Rattle.refusal.specs.declared.Count.{Count}
 use Rattle.refusal.specs.declared.Count.the-variants as counted
 use Rattle.refusal.specs.Refusals.{numberOf}
 use Rattle.refusal.specs.Answers.{tellsCount}
-use Rattle.refusal.specs.Checks.{Check, first}
+use Rattle.refusal.specs.Checks.{Check, first, roomChecks}
 use Rattle.refusal.proofs.Numbers.{numberOf-positive}
 use Rattle.refusal.proofs.Passed.{first-refused, told-refused, when-refused, same-told, same-left}
 use Rattle.curves.specs.declared.Plan.{Plan}
@@ -21,7 +21,7 @@ use Rattle.plans.specs.Contracts.{askPlanChecks, orderChecks, planChecks, AsksP
 use Rattle.records.specs.declared.Found.{Found}
 use Rattle.curves.specs.Values.{Sized}
 use Rattle.records.specs.Records.{encoded, planOf}
-use Rattle.records.specs.Contracts.{bodyChecks, bodyPlanChecks, roomChecks, writeChecks, TakesBody, WritesRecord, WritesRecordBy}
+use Rattle.records.specs.Contracts.{bodyChecks, bodyPlanChecks, writeChecks, TakesBody, WritesRecord, WritesRecordBy}
 use Rattle.records.proofs.Answers.{whole-asked, whole-judged, plan-taken}
 use Rattle.bodies.proofs.Laws.{decoded-sized}
 use Rattle.scripts.specs.Scripts.{scriptFor}

@@ -9,7 +9,7 @@ use borrow.Author.Tests.{eqb-true}
 use lib.Dec.{eqb}
 use lib.IntN.{ℤ, pos, negℤ}
 use lib.ListN.{length, replicate}
-use Rattle.refusal.specs.Checks.{first, told, toldOr}
+use Rattle.refusal.specs.Checks.{first, told, toldOr, roomChecks}
 use Rattle.cards.specs.Cards.{sheetOf, chipOf, whenKnown, tableOf}
 use Rattle.cards.specs.Identity.{confirmed}
 use Rattle.curves.specs.declared.Plan.{Plan}
@@ -26,7 +26,7 @@ use Rattle.watch.specs.declared.Watch.{Watch}
 use Rattle.watch.specs.Alarm as alarm
 use Rattle.watch.specs.Contracts.{sampleChecks}
 use Rattle.records.specs.Records.{recordLength, chipIn, planIn, noPlan}
-use Rattle.records.specs.Contracts.{recordChecks, roomChecks}
+use Rattle.records.specs.Contracts.{recordChecks}
 use Rattle.translation.specs.Words.{decimal}
 use Rattle.translation.specs.Text.{textOf, endLine}
 use Rattle.clib.specs.Facts.{watchOf, factsOf}

@@ -10,7 +10,7 @@ use lib.Dec.{eqb}
 use lib.ListN.{length, getD, length-append}
 use Rattle.refusal.specs.declared.Count.{Count}
 use Rattle.refusal.specs.Answers.{tellsCount}
-use Rattle.refusal.specs.Checks.{Check, first, told}
+use Rattle.refusal.specs.Checks.{Check, first, told, roomChecks}
 use Rattle.cards.specs.declared.types.Chip.{Chip}
 use Rattle.cards.specs.declared.types.Named.{Named}
 use Rattle.cards.specs.declared.types.Named.the-variants.{Known, Unknown}
@@ -22,7 +22,7 @@ use Rattle.curves.specs.Orders.{fulls}
 use Rattle.curves.specs.Planned.{planned}
 use Rattle.curves.specs.Values.{Sized}
 use Rattle.records.specs.Records.{encoded, recordLength, chipIn}
-use Rattle.records.specs.Contracts.{roomChecks, writeChecks, WritesRecord}
+use Rattle.records.specs.Contracts.{writeChecks, WritesRecord}
 use Rattle.records.proofs.Encoding.{length-short, record-short}
 use Rattle.scripts.specs.Scripts.{scriptOf, scriptFor, fullOf}
 use Rattle.scripts.specs.Contracts.{scriptChecks, Scripts}

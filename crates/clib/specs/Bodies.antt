@@ -4,9 +4,9 @@
 use Prim.Native.Nat.{ℕ, _*_}
 use mathlib.Core.List.{List, _++_}
 use lib.ListN.{length}
-use Rattle.refusal.specs.Checks.{Check}
+use Rattle.refusal.specs.Checks.{Check, roomChecks}
 use Rattle.records.specs.Records.{planOf, encoded}
-use Rattle.records.specs.Contracts.{bodyPlanChecks, roomChecks}
+use Rattle.records.specs.Contracts.{bodyPlanChecks}
 use Rattle.scripts.specs.Scripts.{scriptFor}
 use Rattle.plays.specs.Contracts.{startChecks}
 

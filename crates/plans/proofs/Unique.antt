@@ -8,16 +8,20 @@ use Rattle.refusal.proofs.Numbers.{numberOf-injective, numberOf-positive}
 use Rattle.refusal.proofs.Answers.{tells-injective}
 use Rattle.refusal.specs.declared.Outcome.{Outcome}
 use Rattle.refusal.specs.Checks.{Check}
+use Rattle.images.specs.declared.Admitted.{Admitted}
 use Rattle.curves.specs.declared.Plan.{Plan}
 use Rattle.plans.specs.declared.Asked.{Asked}
 use Rattle.plans.specs.declared.Asked.the-variants as asked
-use Rattle.plans.specs.Contracts.{tellsAsked, Judges, AsksPlanBy, AsksImage}
+use Rattle.plans.specs.Contracts.{tellsAsked, Accepts, Judges, AsksPlanBy, AsksImage}
 
 pub tellsAsked-injective : (r s : Asked) → tellsAsked r ≡ tellsAsked s → r ≡ s
 tellsAsked-injective (asked.Speed a) (asked.Speed b) e = ap asked.Speed (ap (λ (t : ℕ × ℕ). t .1) e)
 tellsAsked-injective (asked.Speed a) (asked.Refused q) e = absurd (omega (arith, numberOf-positive q, ap (λ (t : ℕ × ℕ). t .0) e))
 tellsAsked-injective (asked.Refused p) (asked.Speed b) e = absurd (omega (arith, numberOf-positive p, ap (λ (t : ℕ × ℕ). t .0) e))
 tellsAsked-injective (asked.Refused p) (asked.Refused q) e = ap asked.Refused (numberOf-injective p q (ap (λ (t : ℕ × ℕ). t .0) e))
+
+pub accepts-unique : {plan : Plan} {r s : Admitted} → Accepts plan r → Accepts plan s → r ≡ s
+accepts-unique p q = p .answer ∙ sym (q .answer)
 
 pub judges-unique : {plan : Plan} {r s : Outcome} → Judges plan r → Judges plan s → r ≡ s
 judges-unique {r = r} {s = s} p q = tells-injective r s (p .answer ∙ sym (q .answer))

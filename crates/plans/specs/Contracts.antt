@@ -8,20 +8,21 @@ use Rattle.refusal.specs.declared.Outcome.{Outcome}
 use Rattle.refusal.specs.Refusals.{numberOf}
 use Rattle.refusal.specs.Answers.{tells}
 use Rattle.refusal.specs.Checks.{Check, first, told}
-use Rattle.cards.specs.Cards.{chipOf, whenKnown, unknown, noTable, notAnImage, tableOf}
+use Rattle.cards.specs.Cards.{chipOf, whenKnown, unknown, noTable, notAnImage, shapeOf}
+use Rattle.images.specs.declared.Admitted.{Admitted}
 use Rattle.curves.specs.declared.Plan.{Plan}
-use Rattle.curves.specs.Planned.{planned, asks, temperaturesInOrder, speedsInOrder}
+use Rattle.curves.specs.Planned.{asks}
 use Rattle.plans.specs.declared.Asked.{Asked}
 use Rattle.plans.specs.declared.Asked.the-variants as asked
-use Rattle.plans.specs.Plans.{held}
+use Rattle.plans.specs.Plans.{held, plannedFor, temperaturesPass, speedsPass, accepted}
 
--- refusal 6: "temperatures of the plan are out of order"
+-- refusal 6: "temperatures of the plan are out of order", or a register cannot hold one
 abbrev pub temperaturesOut : Plan → Bool
-temperaturesOut plan = not (whenKnown (chipOf (plan .chip)) (λ c. temperaturesInOrder c plan) true)
+temperaturesOut plan = not (whenKnown (chipOf (plan .chip)) (λ c. temperaturesPass c plan) true)
 
--- refusal 7: "duties or counts of the plan are out of order"
+-- refusal 7: "duties or counts of the plan are out of order", or a register cannot hold one
 abbrev pub speedsOut : Plan → Bool
-speedsOut plan = not (whenKnown (chipOf (plan .chip)) (λ c. speedsInOrder c plan) true)
+speedsOut plan = not (whenKnown (chipOf (plan .chip)) (λ c. speedsPass c plan) true)
 
 -- "Asking a speed .. of a plan 3 and 4, never 6 or 7"
 abbrev pub askPlanChecks : Plan → List Check
@@ -39,13 +40,17 @@ abbrev pub tellsAsked : Asked → ℕ × ℕ
 tellsAsked (asked.Speed s) = (0, s)
 tellsAsked (asked.Refused r) = (numberOf r, 0)
 
+-- what `plans::accept` promises: the plan's chip, or the first check that it fails (`accepted-checks`)
+pub record Accepts (plan : Plan) (r : Admitted) : Type 0 where
+  pub answer : r ≡ accepted plan
+
 -- what `plans::judge` promises
 pub record Judges (plan : Plan) (r : Outcome) : Type 0 where
   pub answer : tells r ≡ first (planChecks plan)
 
 -- what a call that asks a speed of a plan promises, by its own list of checks ..
 pub record AsksPlanBy (checks : List Check) (plan : Plan) (t : ℕ) (r : Asked) : Type 0 where
-  pub answer : tellsAsked r ≡ told checks (whenKnown (chipOf (plan .chip)) (λ c. asks c (planned c plan) t) 0)
+  pub answer : tellsAsked r ≡ told checks (whenKnown (chipOf (plan .chip)) (λ c. asks (shapeOf c (plan .table)) (plannedFor c plan) t) 0)
 
 -- .. and so what `plans::asked_of_plan` promises
 abbrev pub AsksPlan : Plan → ℕ → Asked → Type 0
@@ -60,4 +65,4 @@ pub record AsksImage (chip table : ℕ) (image : List ℕ) (t : ℕ) (r : Asked)
   pub answer :
       tellsAsked r
       ≡ told (askImageChecks chip table image)
-      (whenKnown (chipOf chip) (λ c. asks c (held (tableOf c table) image) t) 0)
+      (whenKnown (chipOf chip) (λ c. asks (shapeOf c table) (held c table image) t) 0)

@@ -5,16 +5,12 @@ use cards::Chip;
 use cards::Fan;
 use cards::Named;
 use curves::Plan;
+use images::Admitted;
 use refusal::Outcome;
 use refusal::Refusal;
 ghost use mathlib.Core.Path.{_≡_};
-ghost use mathlib.Core.Bool.{not};
-ghost use mathlib.Core.List.{[], _∷_};
-ghost use Rattle.refusal.specs.Checks.{first};
-ghost use Rattle.refusal.specs.Answers.{tells};
-ghost use Rattle.cards.specs.Cards.{hasTable};
-ghost use Rattle.curves.specs.Planned.{temperaturesInOrder, speedsInOrder};
-ghost use Rattle.plans.specs.Contracts.{Judges, AsksPlan, AsksImage};
+ghost use Rattle.plans.specs.Plans.{acceptedOf};
+ghost use Rattle.plans.specs.Contracts.{Accepts, Judges, AsksPlan, AsksImage};
 
 // The duty of chip 1, or the count of chip 2.
 pub enum Asked {
@@ -23,28 +19,46 @@ pub enum Asked {
 }
 
 // What is left to check of a plan once its chip is known.
-fn judge_known(chip: Chip, plan: Plan) -> Outcome
-    ensures { λ r. ⌜ tells r ≡ first ((not (hasTable chip (plan .table)), 4) ∷ (not (temperaturesInOrder chip plan), 6) ∷ (not (speedsInOrder chip plan), 7) ∷ []) ⌝ }
+fn accept_known(chip: Chip, plan: Plan) -> Admitted
+    ensures { λ r. ⌜ r ≡ acceptedOf chip plan ⌝ }
 {
-    if let Fan::Nothing = cards::table_of(chip, plan.table) {
-        return Outcome::Refused(Refusal::NoSuchTable);
+    let Fan::Laid(layout) = cards::table_of(chip, plan.table) else {
+        return Admitted::Refused(Refusal::NoSuchTable);
+    };
+    let shape = layout.shape;
+    let settings = layout.settings;
+    if !curves::temperatures_in_order(shape, plan) {
+        return Admitted::Refused(Refusal::TemperaturesOutOfOrder);
     }
-    if !curves::temperatures_in_order(chip, plan) {
-        return Outcome::Refused(Refusal::TemperaturesOutOfOrder);
+    if !tables::fit(chip, plan, layout, 0, settings) {
+        return Admitted::Refused(Refusal::TemperaturesOutOfOrder);
     }
-    if !curves::speeds_in_order(chip, plan) {
-        return Outcome::Refused(Refusal::SpeedsOutOfOrder);
+    if !curves::speeds_in_order(shape, plan) {
+        return Admitted::Refused(Refusal::SpeedsOutOfOrder);
     }
-    Outcome::Accepted
+    if !tables::fit(chip, plan, layout, settings, settings + layout.speeds) {
+        return Admitted::Refused(Refusal::SpeedsOutOfOrder);
+    }
+    Admitted::Known(chip)
 }
 
-// Whether a plan is accepted, and else the first check that it fails.
+// The chip of a plan that is accepted, and else the first check that it fails.
+pub fn accept(plan: Plan) -> Admitted
+    ensures { λ r. ⌜ Accepts plan r ⌝ }
+{
+    match cards::chip_of(plan.chip) {
+        Named::Unknown => Admitted::Refused(Refusal::NoSuchChip),
+        Named::Known(chip) => accept_known(chip, plan),
+    }
+}
+
+// Whether a plan is accepted.
 pub fn judge(plan: Plan) -> Outcome
     ensures { λ r. ⌜ Judges plan r ⌝ }
 {
-    match cards::chip_of(plan.chip) {
-        Named::Unknown => Outcome::Refused(Refusal::NoSuchChip),
-        Named::Known(chip) => judge_known(chip, plan),
+    match accept(plan) {
+        Admitted::Refused(refusal) => Outcome::Refused(refusal),
+        Admitted::Known(_) => Outcome::Accepted,
     }
 }
 
@@ -55,10 +69,11 @@ pub fn asked_of_plan(plan: Plan, t: u8) -> Asked
     match cards::chip_of(plan.chip) {
         Named::Unknown => Asked::Refused(Refusal::NoSuchChip),
         Named::Known(chip) => {
-            if let Fan::Nothing = cards::table_of(chip, plan.table) {
+            let Fan::Laid(layout) = cards::table_of(chip, plan.table) else {
                 return Asked::Refused(Refusal::NoSuchTable);
-            }
-            Asked::Speed(curves::speed_of(chip, plan, t))
+            };
+            let shape = layout.shape;
+            Asked::Speed(curves::speed_of(shape, plan, t))
         }
     }
 }
@@ -71,13 +86,15 @@ pub fn asked_of_image(chip: u8, table: u8, image: &[u8], t: u8) -> Asked
         Named::Unknown => Asked::Refused(Refusal::NoSuchChip),
         Named::Known(known) => match cards::table_of(known, table) {
             Fan::Nothing => Asked::Refused(Refusal::NoSuchTable),
-            Fan::Laid(_) => {
+            Fan::Laid(layout) => {
                 let sizes = cards::sizes_of(known);
                 if image.len() != sizes.image {
                     return Asked::Refused(Refusal::NotAnImage);
                 }
                 let body = tables::held(known, table, image);
-                Asked::Speed(curves::speed_of(known, bodies::plan_of(known, table, &body), t))
+                let shape = layout.shape;
+                let plan = bodies::plan_of(shape, chip, table, &body);
+                Asked::Speed(curves::speed_of(shape, plan, t))
             }
         },
     }

@@ -1,20 +1,24 @@
-// The bytes that a fan table's registers hold in an image.
+// What a fan table's registers hold in an image, and whether they can hold a plan's values.
+use bodies::LONGEST;
 use cards::Chip;
+use cards::Layout;
+use cards::Register;
+use curves::Plan;
+ghost use Prim.Native.Nat.{_-_, _≤_};
 ghost use mathlib.Core.Path.{_≡_};
-ghost use lib.ListN.{getD};
 ghost use Rattle.cards.specs.Rows.{column};
 ghost use Rattle.cards.specs.Sheets.{registerIn};
-ghost use Rattle.cards.specs.Cards.{tablesOf};
+ghost use Rattle.cards.specs.Cards.{sheetOf};
+ghost use Rattle.plans.specs.Parts.{worthAt, fitFrom, planFits};
 
-// No fan table has more registers.
-const LONGEST: usize = 14;
-
-// The byte at a position, and 0 behind the image's end.
-fn byte_at(image: &[u8], position: usize) -> u8
-    ensures { λ r. ⌜ r ≡ getD (now (image .entry)) position 0 ⌝ }
+// A register's writable bits in the image, and 0 behind the image's end.
+fn worth(image: &[u8], register: Register) -> u8
+    ensures { λ r. ⌜ r ≡ worthAt register (now (image .entry)) ⌝ }
 {
+    let position = register.position;
+    let masks = register.masks;
     if position < image.len() {
-        image[position]
+        image[position] & masks.writable
     } else {
         0
     }
@@ -22,12 +26,40 @@ fn byte_at(image: &[u8], position: usize) -> u8
 
 // Register by register, in the order of the table.
 pub(crate) fn held(chip: Chip, table: u8, image: &[u8]) -> [u8; LONGEST]
-    ensures { λ r. ⌜ r ≡ column 14 (λ k. getD (now (image .entry)) (registerIn (tablesOf chip) table k) 0) ⌝ }
+    ensures { λ r. ⌜ r ≡ column 14 (λ k. worthAt (registerIn (sheetOf chip) table k) (now (image .entry))) ⌝ }
 {
     let mut bytes = [0u8; LONGEST];
     for k in 0..LONGEST {
-        let position = cards::register_of(chip, table, k);
-        bytes[k] = byte_at(image, position);
+        bytes[k] = worth(image, cards::register_of(chip, table, k));
     }
     bytes
+}
+
+// Whether the registers of a table, from one place up to another, can hold a body's bytes.
+fn each_fits(chip: Chip, table: u8, body: [u8; LONGEST], from: usize, to: usize) -> bool
+    requires { ⌜ to ≤ 14 ⌝ }
+    ensures { λ r. ⌜ r ≡ fitFrom (registerIn (sheetOf chip) table) body from (to - from) ⌝ }
+{
+    for k in from..to {
+        let register = cards::register_of(chip, table, k);
+        let masks = register.masks;
+        let byte = body[k];
+        if byte & masks.writable != byte {
+            return false;
+        }
+    }
+    true
+}
+
+// The same of a plan's values. A table all of whose bits are writable holds every byte.
+pub(crate) fn fit(chip: Chip, plan: Plan, layout: Layout, from: usize, to: usize) -> bool
+    requires { ⌜ to ≤ 14 ⌝ }
+    ensures { λ r. ⌜ r ≡ planFits chip plan layout from (to - from) ⌝ }
+{
+    if layout.whole {
+        return true;
+    }
+    let shape = layout.shape;
+    let body = bodies::body_of(shape, plan);
+    each_fits(chip, plan.table, body, from, to)
 }

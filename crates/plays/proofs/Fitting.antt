@@ -1,100 +1,107 @@
--- A plan fills its chip's fan table with bytes, and no speed byte is faster than full: what the types of a plan and of an image say, as the theorem asks it.
+-- A plan whose values fit its registers meets what the theorem asks, whatever the shape: no register's value is faster than full.
 -- Assumes nothing.
-use Prim.Native.Nat.{ℕ, _<_, _^_, zero-le}
+use Prim.Native.Nat.{ℕ, _≤_, zero-le}
 use native.Mathlib.Omega.{arith}
-use mathlib.Core.Bool.{So}
+use mathlib.Core.Path.{_≡_, refl, ap, _∙_}
+use mathlib.Core.Bool.{So, false≢true}
 use mathlib.Core.List.{List, [], _∷_, _++_, map}
+use borrow.Author.Tests.{eqb-true}
+use lib.Bits.{bitAnd, and-le-r, and-self}
 use lib.ListN.{getD}
-use mir.Syntax.{w8}
-use mir.Val as val
 use Rattle.cards.specs.declared.types.Chip.{Chip}
-use Rattle.cards.specs.declared.types.Chip.the-variants.{Nct7802y, F75373s, Nct80}
-use Rattle.cards.specs.Cards.{hasTable, tableOf}
+use Rattle.cards.specs.declared.types.Shape.{Shape}
+use Rattle.cards.specs.declared.types.Shape.the-variants.{Slope, Steps}
+use Rattle.cards.specs.Cards.{rowOf, tableOf, shapeOf, worth, fitsAt}
+use Rattle.cards.proofs.Every.{both}
+use Rattle.cards.proofs.Sound.{reaches}
+use Rattle.cards.proofs.Tables.{table-reaches}
 use Rattle.curves.specs.declared.Plan.{Plan}
-use Rattle.curves.specs.Curves.{halves}
-use Rattle.curves.specs.Orders.{Each, fulls, MoreDuty, LessCount}
-use Rattle.curves.specs.Planned.{planned}
-use Rattle.curves.specs.Values.{Within, Typed}
-use Rattle.curves.proofs.Owned.{all-at}
-use Rattle.scripts.specs.Scripts.{writes, fullOf, scriptOf}
+use Rattle.curves.specs.Orders.{All, Each, fulls}
+use Rattle.curves.specs.Planned.{fullOf, temperaturesInOrder, speedsInOrder}
+use Rattle.plans.specs.Plans.{fits, plannedFor, temperaturesPass, speedsPass}
+use Rattle.plans.proofs.Laws.{Accepted}
+use Rattle.scripts.specs.Scripts.{writes, placements}
 use Rattle.scripts.proofs.Safe.{Fits}
-use Rattle.scripts.proofs.Filled.{settings-fill, speeds-fill}
-use Rattle.plays.proofs.Rules.{ruleOf}
-use Rattle.plays.proofs.Played.{bytesOf, AllWhole, all-of, whole-append, whole-writes, settings-free, speeds-free}
+use Rattle.plays.proofs.Rules.{each-long, ruleOf}
+use Rattle.plays.proofs.Played.{Fit, AllWhole, whole-append, whole-writes, all-of, settings-inside, speeds-inside}
 
--- no byte is faster than FFh, and no count byte is faster than 00h
-duty-full : (l : List ℕ) → Within 8 l → Each MoreDuty (fulls 255 l) l
-duty-full [] h = tt
-duty-full (b ∷ l) h = (omega (arith, h .0), duty-full l (h .1))
+-- a value of a register whose mask is as the shape asks is none faster than full
+one-slower : (shape : Shape) (mask v : ℕ) → So (reaches shape mask) → v ≤ mask → ruleOf shape .Fast (ruleOf shape .full) v
+one-slower (Slope full) mask v r h = omega (arith, eqb-true mask full r)
+one-slower Steps mask v r h = zero-le
 
-count-full : (l : List ℕ) → Each LessCount (fulls 0 l) l
-count-full [] = tt
-count-full (b ∷ l) = (zero-le, count-full l)
+-- and such a register holds full whole
+full-fits : (shape : Shape) (mask : ℕ) → So (reaches shape mask) → bitAnd (fullOf shape) mask ≡ fullOf shape
+full-fits (Slope full) mask r = ap (bitAnd full) (eqb-true mask full r) ∙ and-self full
+full-fits Steps mask r = refl
 
--- each byte of an image is a byte
-pub image-within : (image : List ℕ) → ((k : ℕ) → val.Fits w8 (getD image k 0)) → Within 8 image
-image-within image known = all-of (λ b. b < 2 ^ 8) image (λ k h. known k .fits)
+abbrev Reaches : Chip → Shape → ℕ → Type 0
+Reaches chip shape p = So (reaches shape (rowOf chip p .writable))
 
-byte-at : (image : List ℕ) (p : ℕ) → Within 8 image → bytesOf image p < 2 ^ 8
-byte-at image p h = all-at (λ b. b < 2 ^ 8) image h (omega arith) p
+held-slower : (chip : Chip) (shape : Shape) (image ps : List ℕ) → All (Reaches chip shape) ps
+    → Each (ruleOf shape .Fast) (fulls (ruleOf shape .full) (map (worth chip image) ps)) (map (worth chip image) ps)
+held-slower chip shape image [] r = tt
+held-slower chip shape image (p ∷ ps) r = (
+  one-slower shape (rowOf chip p .writable) (worth chip image p) (r .0) (and-le-r (getD image p 0) (rowOf chip p .writable)),
+  held-slower chip shape image ps (r .1),
+)
 
-bytes-at : (image ps : List ℕ) → Within 8 image → Within 8 (map (bytesOf image) ps)
-bytes-at image [] h = tt
-bytes-at image (p ∷ ps) h = (byte-at image p h, bytes-at image ps h)
+fit-slower : (chip : Chip) (shape : Shape) (ps vs : List ℕ) → All (Reaches chip shape) ps → Each (Fit chip) ps vs
+    → Each (ruleOf shape .Fast) (fulls (ruleOf shape .full) vs) vs
+fit-slower chip shape [] [] r e = tt
+fit-slower chip shape [] (v ∷ vs) r e = absurd e
+fit-slower chip shape (p ∷ ps) [] r e = absurd e
+fit-slower chip shape (p ∷ ps) (v ∷ vs) r e = (
+  one-slower shape (rowOf chip p .writable) v (r .0) (omega (arith, e .0, and-le-r v (rowOf chip p .writable))),
+  fit-slower chip shape ps vs (r .1) (e .1),
+)
 
-within-append : (xs ys : List ℕ) → Within 8 xs → Within 8 ys → Within 8 (xs ++ ys)
-within-append [] ys h k = k
-within-append (x ∷ xs) ys h k = (h .0, within-append xs ys (h .1) k)
+fulls-fit : (chip : Chip) (shape : Shape) (ps : List ℕ) → All (Reaches chip shape) ps → Each (Fit chip) ps (fulls (fullOf shape) ps)
+fulls-fit chip shape [] r = tt
+fulls-fit chip shape (p ∷ ps) r = (full-fits shape (rowOf chip p .writable) (r .0), fulls-fit chip shape ps (r .1))
 
-within-fulls : (full : ℕ) (l : List ℕ) → full < 2 ^ 8 → Within 8 (fulls full l)
-within-fulls full [] h = tt
-within-fulls full (x ∷ l) h = (h, within-fulls full l h)
+-- what fits, register by register
+each-fit : (chip : Chip) (ps vs : List ℕ) → So (fits chip ps vs) → Each (Fit chip) ps vs
+each-fit chip [] [] t = tt
+each-fit chip [] (v ∷ vs) t = absurd (false≢true t)
+each-fit chip (p ∷ ps) [] t = absurd (false≢true t)
+each-fit chip (p ∷ ps) (v ∷ vs) t =
+    let parts = both (fitsAt chip p v) (fits chip ps vs) t in
+    (eqb-true (bitAnd v (rowOf chip p .writable)) v (parts .0), each-fit chip ps vs (parts .1))
 
--- the halves of counts are bytes
-within-halves : (cs : List ℕ) → Within 16 cs → Within 8 (halves cs)
-unfolding halves
-within-halves [] h = tt
-within-halves (c ∷ cs) h = (omega (arith, h .0), (omega arith, within-halves cs (h .1)))
+module _ (chip : Chip) (plan : Plan) (accepted : Accepted chip plan) where
+  abbrev shape : Shape
+  shape = shapeOf chip (plan .table)
 
-none-faster : (chip : Chip) (l : List ℕ) → Within 8 l → Each (ruleOf chip .Fast) (fulls (ruleOf chip .full) l) l
-none-faster Nct7802y l h = duty-full l h
-none-faster F75373s l h = count-full l
-none-faster Nct80 l h = count-full l
+  speeds-reach : All (Reaches chip shape) (tableOf chip (plan .table) .speeds)
+  speeds-reach = all-of (Reaches chip shape) (tableOf chip (plan .table) .speeds) (table-reaches chip (plan .table))
 
-settings-within : (chip : Chip) (plan : Plan) → Typed plan → Within 8 (planned chip plan .settings)
-settings-within Nct7802y plan typed = within-append (plan .slope .temperatures) (plan .slope .critical ∷ []) (typed .temperatures) (typed .critical, tt)
-settings-within F75373s plan typed = typed .bounds
-settings-within Nct80 plan typed = tt
+  settings-fit : Each (Fit chip) (tableOf chip (plan .table) .settings) (plannedFor chip plan .settings)
+  unfolding temperaturesPass
+  settings-fit = each-fit chip _ _ (both (temperaturesInOrder shape plan) _ (accepted .temperatures) .1)
 
-speeds-within : (chip : Chip) (plan : Plan) → Typed plan → Within 8 (planned chip plan .speeds)
-speeds-within Nct7802y plan typed = typed .duties
-speeds-within F75373s plan typed = within-halves (plan .steps .counts) (typed .counts)
-speeds-within Nct80 plan typed = tt
+  speeds-fit : Each (Fit chip) (tableOf chip (plan .table) .speeds) (plannedFor chip plan .speeds)
+  unfolding speedsPass
+  speeds-fit = each-fit chip _ _ (both (speedsInOrder shape plan) _ (accepted .speeds) .1)
 
-full-byte : (chip : Chip) → fullOf chip < 2 ^ 8
-full-byte Nct7802y = omega arith
-full-byte F75373s = omega arith
-full-byte Nct80 = omega arith
-
-module _ (chip : Chip) (plan : Plan) (typed : Typed plan) (has : So (hasTable chip (plan .table))) where
-  pub plan-fits : (old : List ℕ) → Within 8 old → Fits (ruleOf chip) (tableOf chip (plan .table)) (bytesOf old) (planned chip plan)
-  plan-fits old bytes =
+  pub plan-fits : (old : List ℕ) → Fits (ruleOf shape) (tableOf chip (plan .table)) (worth chip old) (plannedFor chip plan)
+  plan-fits old =
       record {
-        settings = settings-fill chip plan (typed .sized) has;
-        speeds = speeds-fill chip plan (typed .sized) has;
-        first-full = none-faster chip (map (bytesOf old) (tableOf chip (plan .table) .speeds)) (bytes-at old (tableOf chip (plan .table) .speeds) bytes);
-        plan-full = none-faster chip (planned chip plan .speeds) (speeds-within chip plan typed);
+        settings = each-long (Fit chip) (tableOf chip (plan .table) .settings) (plannedFor chip plan .settings) settings-fit;
+        speeds = each-long (Fit chip) (tableOf chip (plan .table) .speeds) (plannedFor chip plan .speeds) speeds-fit;
+        first-full = held-slower chip shape old (tableOf chip (plan .table) .speeds) speeds-reach;
+        plan-full = fit-slower chip shape (tableOf chip (plan .table) .speeds) (plannedFor chip plan .speeds) speeds-reach speeds-fit;
       }
 
   -- each write of its script is taken whole
-  pub script-whole : AllWhole chip (scriptOf chip plan)
-  unfolding scriptOf
+  pub script-whole : AllWhole chip (placements chip plan)
+  unfolding placements
   script-whole =
       let settings = tableOf chip (plan .table) .settings in
       let speeds = tableOf chip (plan .table) .speeds in
-      let curve = planned chip plan in
-      whole-append chip (writes speeds (fulls (fullOf chip) speeds)) (writes settings (curve .settings) ++ writes speeds (curve .speeds))
-      (whole-writes chip speeds (fulls (fullOf chip) speeds) (speeds-free chip (plan .table) has) (within-fulls (fullOf chip) speeds (full-byte chip)))
+      let curve = plannedFor chip plan in
+      whole-append chip (writes speeds (fulls (fullOf shape) speeds)) (writes settings (curve .settings) ++ writes speeds (curve .speeds))
+      (whole-writes chip speeds (fulls (fullOf shape) speeds) (speeds-inside chip (plan .table)) (fulls-fit chip shape speeds speeds-reach))
       (whole-append chip (writes settings (curve .settings)) (writes speeds (curve .speeds))
-      (whole-writes chip settings (curve .settings) (settings-free chip (plan .table) has) (settings-within chip plan typed))
-      (whole-writes chip speeds (curve .speeds) (speeds-free chip (plan .table) has) (speeds-within chip plan typed)))
+      (whole-writes chip settings (curve .settings) (settings-inside chip (plan .table)) settings-fit)
+      (whole-writes chip speeds (curve .speeds) (speeds-inside chip (plan .table)) speeds-fit))

@@ -1,89 +1,71 @@
--- Played on an image through the cards, a script's writes do what they do to a memory: each lands at a fan table's register, all of whose bits are
--- writable. A table's registers stand apart, so a script moves no other byte.
+-- Written by position, a script's writes do to an image's registers what they do to a memory: each goes to a fan table's register, which holds the value
+-- whole. A table's registers stand apart, so a script moves no other byte.
 -- Assumes nothing.
-use Prim.Native.Nat.{ℕ, zero, suc, _<_, _^_, suc-le-suc}
+use Prim.Native.Nat.{ℕ, zero, suc, _<_, suc-le-suc}
 use native.Mathlib.Nat.{suc-inj}
 use native.Mathlib.Omega.{arith}
 use mathlib.Core.Path.{_≡_, refl, sym, ap, _∙_}
-use mathlib.Core.Bool.{Bool, true, false, So}
+use mathlib.Core.Bool.{Bool, true, false}
 use mathlib.Core.List.{List, [], _∷_, _++_}
 use borrow.Author.Tests.{eqb-true, eqb-false}
+use lib.Bits.{bitAnd}
 use lib.Dec.{eqb}
 use lib.ListN.{length, getD, take}
 use Rattle.cards.specs.declared.types.Chip.{Chip}
-use Rattle.cards.specs.Rows.{positions}
-use Rattle.cards.specs.Cards.{rowOf, sizeOf, hasTable, tableOf}
-use Rattle.cards.proofs.Tables.{table-mask, table-within, table-distinct}
-use Rattle.images.specs.Bytes.{placed, written}
-use Rattle.images.proofs.Laws.{lands, storedAt-length, storedAt-other, storedAt-full}
-use Rattle.curves.specs.Orders.{All}
-use Rattle.curves.specs.Values.{Within}
+use Rattle.cards.specs.Rows.{masksIn, positions}
+use Rattle.cards.specs.Cards.{rowOf, sizeOf, tableOf, worth}
+use Rattle.cards.proofs.Tables.{table-within, table-distinct}
+use Rattle.images.specs.Bytes.{placed}
+use Rattle.images.proofs.Laws.{storedAt-length, storedAt-other, storedAt-takes}
+use Rattle.curves.specs.Orders.{All, Each}
 use Rattle.scripts.specs.Scripts.{Pair, writes}
+use Rattle.scripts.specs.Plays.{laid}
 use Rattle.scripts.specs.Rules.{Outside}
 use Rattle.scripts.proofs.Memory.{Memory, put, puts, put-there, put-elsewhere, Distinct, Disjoint}
 use Rattle.scripts.proofs.Safe.{Apart}
-use Rattle.plays.specs.Plays.{played}
 
-abbrev pub bytesOf : List ℕ → Memory
-bytesOf image position = getD image position 0
+-- a register's writable bits can hold a value
+abbrev pub Fit : Chip → ℕ → ℕ → Type 0
+Fit chip position value = bitAnd value (rowOf chip position .writable) ≡ value
 
--- a register of the image that takes every bit
-abbrev Free : Chip → ℕ → Type 0
-Free chip position = (rowOf chip position .writable ≡ 0xFF) × (position < sizeOf chip)
+-- a position of the image
+abbrev pub Inside : Chip → ℕ → Type 0
+Inside chip position = position < sizeOf chip
 
--- a write of a byte to such a register
-abbrev Whole : Chip → Pair → Type 0
-Whole chip w = Free chip (w .0) × (w .1 < 2 ^ 8)
+-- a write that its register takes whole
+abbrev pub Whole : Chip → Pair → Type 0
+Whole chip w = Fit chip (w .0) (w .1) × Inside chip (w .0)
 
 abbrev pub AllWhole : Chip → List Pair → Type 0
 AllWhole chip [] = Unit {0}
 AllWhole chip (w ∷ ws) = Whole chip w × AllWhole chip ws
 
--- an image after some writes by position
-abbrev laid : Chip → List Pair → List ℕ → List ℕ
-laid chip [] image = image
-laid chip (w ∷ ws) image = laid chip ws (placed chip (w .0) (w .1) image)
-
--- writes on the bus are writes by position
-played-laid : (chip : Chip) (ws : List Pair) (image : List ℕ) → played chip ws image ≡ laid chip ws image
-played-laid chip [] image = refl
-played-laid chip (w ∷ ws) image =
-    played-laid chip ws (written chip (w .0) (w .1) image)
-    ∙ ap (λ (position : ℕ). laid chip ws (placed chip position (w .1) image)) (lands chip image (w .0))
-
-laid-length : (chip : Chip) (ws : List Pair) (image : List ℕ) → length (laid chip ws image) ≡ length image
+pub laid-length : (chip : Chip) (ws : List Pair) (image : List ℕ) → length (laid chip ws image) ≡ length image
 laid-length chip [] image = refl
 laid-length chip (w ∷ ws) image =
-    laid-length chip ws (placed chip (w .0) (w .1) image) ∙ storedAt-length (rowOf chip (w .0)) (w .0) (w .1) image
-
-pub played-length : (chip : Chip) (ws : List Pair) (image : List ℕ) → length (played chip ws image) ≡ length image
-played-length chip ws image = ap length (played-laid chip ws image) ∙ laid-length chip ws image
+    laid-length chip ws (placed chip (w .0) (w .1) image) ∙ storedAt-length (masksIn (rowOf chip (w .0))) (w .0) (w .1) image
 
 placed-put : (chip : Chip) (w : Pair) (image : List ℕ) → Whole chip w → length image ≡ sizeOf chip
-    → bytesOf (placed chip (w .0) (w .1) image) ≡ put (bytesOf image) w
+    → worth chip (placed chip (w .0) (w .1) image) ≡ put (worth chip image) w
 placed-put chip w image h e = λ i q. at-each q (eqb q (w .0)) refl i
   where
-    at-each : (q : ℕ) (there : Bool) → eqb q (w .0) ≡ there → getD (placed chip (w .0) (w .1) image) q 0 ≡ put (bytesOf image) w q
+    at-each : (q : ℕ) (there : Bool) → eqb q (w .0) ≡ there → worth chip (placed chip (w .0) (w .1) image) q ≡ put (worth chip image) w q
     at-each q true t =
-        let same = eqb-true q (w .0) t in
-        rw same
-        (storedAt-full (rowOf chip (w .0)) (w .0) (w .1) image (h .0 .0) (h .1) (omega (arith, h .0 .1))
-        ∙ sym (put-there (bytesOf image) (w .0) (w .1)))
+        ap (worth chip (placed chip (w .0) (w .1) image)) (eqb-true q (w .0) t)
+        ∙ storedAt-takes (masksIn (rowOf chip (w .0))) (w .0) (w .1) image (h .0) (omega (arith, h .1))
+        ∙ sym (put-there (worth chip image) (w .0) (w .1))
+        ∙ sym (ap (put (worth chip image) w) (eqb-true q (w .0) t))
     at-each q false t =
         let other = eqb-false q (w .0) t in
-        storedAt-other (rowOf chip (w .0)) (w .0) (w .1) image q other
-        ∙ sym (put-elsewhere (bytesOf image) (w .0) (w .1) q other)
+        ap (λ (b : ℕ). bitAnd b (rowOf chip q .writable)) (storedAt-other (masksIn (rowOf chip (w .0))) (w .0) (w .1) image q other)
+        ∙ sym (put-elsewhere (worth chip image) (w .0) (w .1) q other)
 
-laid-puts : (chip : Chip) (ws : List Pair) (image : List ℕ) → AllWhole chip ws → length image ≡ sizeOf chip
-    → bytesOf (laid chip ws image) ≡ puts (bytesOf image) ws
+pub laid-puts : (chip : Chip) (ws : List Pair) (image : List ℕ) → AllWhole chip ws → length image ≡ sizeOf chip
+    → worth chip (laid chip ws image) ≡ puts (worth chip image) ws
 laid-puts chip [] image h e = refl
 laid-puts chip (w ∷ ws) image h e =
-    laid-puts chip ws (placed chip (w .0) (w .1) image) (h .1) (storedAt-length (rowOf chip (w .0)) (w .0) (w .1) image ∙ e)
+    laid-puts chip ws (placed chip (w .0) (w .1) image) (h .1) (storedAt-length (masksIn (rowOf chip (w .0))) (w .0) (w .1) image ∙ e)
     ∙ ap (λ (m : Memory). puts m ws) (placed-put chip w image (h .0) e)
-
-pub played-puts : (chip : Chip) (ws : List Pair) (image : List ℕ) → AllWhole chip ws → length image ≡ sizeOf chip
-    → bytesOf (played chip ws image) ≡ puts (bytesOf image) ws
-played-puts chip ws image h e = ap bytesOf (played-laid chip ws image) ∙ laid-puts chip ws image h e
 
 pub whole-take : (chip : Chip) (k : ℕ) (ws : List Pair) → AllWhole chip ws → AllWhole chip (take k ws)
 whole-take chip zero ws h = tt
@@ -94,10 +76,11 @@ pub whole-append : (chip : Chip) (xs ys : List Pair) → AllWhole chip xs → Al
 whole-append chip [] ys h k = k
 whole-append chip (x ∷ xs) ys h k = (h .0, whole-append chip xs ys (h .1) k)
 
-pub whole-writes : (chip : Chip) (registers bytes : List ℕ) → All (Free chip) registers → Within 8 bytes → AllWhole chip (writes registers bytes)
+pub whole-writes : (chip : Chip) (registers bytes : List ℕ) → All (Inside chip) registers → Each (Fit chip) registers bytes
+    → AllWhole chip (writes registers bytes)
 whole-writes chip [] bytes f b = tt
 whole-writes chip (p ∷ ps) [] f b = tt
-whole-writes chip (p ∷ ps) (x ∷ xs) f b = ((f .0, b .0), whole-writes chip ps xs (f .1) (b .1))
+whole-writes chip (p ∷ ps) (x ∷ xs) f b = ((b .0, f .0), whole-writes chip ps xs (f .1) (b .1))
 
 -- from every place of a list to all of its entries
 pub all-of : (P : ℕ → Type 0) (xs : List ℕ) → ((k : ℕ) → k < length xs → P (getD xs k 0)) → All P xs
@@ -145,24 +128,24 @@ turned : (xs ys : List ℕ) → Disjoint xs ys → Disjoint ys xs
 turned [] ys d = disjoint-nil ys
 turned (x ∷ xs) ys d = disjoint-cons ys x xs (d .0) (turned xs ys (d .1))
 
-module _ (chip : Chip) (number : ℕ) (has : So (hasTable chip number)) where
+module _ (chip : Chip) (number : ℕ) where
   abbrev registers : List ℕ
   registers = positions (tableOf chip number)
 
-  all-free : All (Free chip) registers
-  all-free = all-of (Free chip) registers (λ k l. (table-mask chip number has k l, table-within chip number has k l))
+  all-inside : All (Inside chip) registers
+  all-inside = all-of (Inside chip) registers (λ k l. table-within chip number k l)
 
-  pub settings-free : All (Free chip) (tableOf chip number .settings)
-  settings-free = all-left (Free chip) (tableOf chip number .settings) (tableOf chip number .speeds) all-free
+  pub settings-inside : All (Inside chip) (tableOf chip number .settings)
+  settings-inside = all-left (Inside chip) (tableOf chip number .settings) (tableOf chip number .speeds) all-inside
 
-  pub speeds-free : All (Free chip) (tableOf chip number .speeds)
-  speeds-free = all-right (Free chip) (tableOf chip number .settings) (tableOf chip number .speeds) all-free
+  pub speeds-inside : All (Inside chip) (tableOf chip number .speeds)
+  speeds-inside = all-right (Inside chip) (tableOf chip number .settings) (tableOf chip number .speeds) all-inside
 
   pub table-apart : Apart (tableOf chip number)
   table-apart =
       let settings = tableOf chip number .settings in
       let speeds = tableOf chip number .speeds in
-      let d = distinct-of registers (table-distinct chip number has) in
+      let d = distinct-of registers (table-distinct chip number) in
       record {
         settings = distinct-left settings speeds d;
         speeds = distinct-right settings speeds d;

@@ -12,7 +12,7 @@ use Rattle.identities.specs.Identities.{unconfirmed}
 use Rattle.curves.specs.declared.Plan.{Plan}
 use Rattle.plans.specs.Contracts.{planChecks}
 use Rattle.scripts.specs.Scripts.{scriptOf, scriptFor}
-use Rattle.plays.specs.Plays.{played}
+use Rattle.scripts.specs.Plays.{played}
 
 -- "playing a script checks 3, 4, 6, 7, 8, 10 and no 9": the plan, then the starting image
 abbrev pub startChecks : Plan → List ℕ → List Check

@@ -1,3 +1,2 @@
-pub mod Plays
 pub mod Contracts
 pub mod NeverSlower

@@ -1,43 +1,31 @@
 -- Demand 3, in the customer's words, of the very answers that callers get: what `plays::play` leaves in a lent image, and what
 -- `plans::asked_of_image` and `plans::asked_of_plan` answer.
 -- Assumes nothing.
-use Prim.Native.Nat.{ℕ, _≤_, min, max}
+use Prim.Native.Nat.{ℕ, _≤_}
 use mathlib.Core.Path.{_≡_}
 use mathlib.Core.List.{List}
 use lib.ListN.{length, getD}
 use Rattle.refusal.specs.Checks.{first}
 use Rattle.cards.specs.declared.types.Chip.{Chip}
-use Rattle.cards.specs.declared.types.Chip.the-variants.{Nct7802y, F75373s, Nct80}
 use Rattle.cards.specs.declared.types.Named.the-variants.{Known}
-use Rattle.cards.specs.Rows.{positions}
-use Rattle.cards.specs.Cards.{chipOf, tableOf}
+use Rattle.cards.specs.declared.types.Shape.{Shape}
+use Rattle.cards.specs.Cards.{chipOf, shapeOf}
 use Rattle.identities.specs.Contracts.{identityChecks}
 use Rattle.curves.specs.declared.Plan.{Plan}
 use Rattle.plans.specs.declared.Asked.{Asked}
 use Rattle.plans.specs.declared.Asked.the-variants.{Speed, Refused}
-use Rattle.curves.specs.Orders.{MoreDuty, LessCount}
+use Rattle.curves.specs.Planned.{AsFast, slower}
 use Rattle.plans.specs.Contracts.{planChecks, AsksImage, AsksPlan}
 use Rattle.scripts.specs.Scripts.{scriptFor}
+use Rattle.scripts.specs.Plays.{touched}
 use Rattle.scripts.specs.Rules.{Outside}
 
--- "More duty is faster; a smaller count is faster": a is at least as fast as b
-abbrev pub AsFast : Chip → ℕ → ℕ → Type 0
-AsFast Nct7802y a b = MoreDuty a b
-AsFast F75373s a b = LessCount a b
-AsFast Nct80 a b = LessCount a b
-
--- the slower of two speeds
-abbrev pub slower : Chip → ℕ → ℕ → ℕ
-slower Nct7802y a b = min a b
-slower F75373s a b = max a b
-slower Nct80 a b = max a b
-
 -- "never slower than the slower of the old curve and the plan", of three speeds asked; a refusal is none
-abbrev pub NeverSlower : Chip → Asked → Asked → Asked → Type 0
-NeverSlower chip (Speed stop) (Speed old) (Speed plan) = AsFast chip stop (slower chip old plan)
-NeverSlower chip (Speed stop) (Speed old) (Refused r) = ⊥
-NeverSlower chip (Speed stop) (Refused r) plan = ⊥
-NeverSlower chip (Refused r) old plan = ⊥
+abbrev pub NeverSlower : Shape → Asked → Asked → Asked → Type 0
+NeverSlower shape (Speed stop) (Speed old) (Speed plan) = AsFast shape stop (slower shape old plan)
+NeverSlower shape (Speed stop) (Speed old) (Refused r) = ⊥
+NeverSlower shape (Speed stop) (Refused r) plan = ⊥
+NeverSlower shape (Refused r) old plan = ⊥
 
 -- Demand 3, of a stop: `old` is the image before, `new` the image at the stop, `count` how many writes were asked for.
 pub record Demand3 (chip : Chip) (plan : Plan) (old : List ℕ) (count : ℕ) (new : List ℕ) : Type 0 where
@@ -46,14 +34,14 @@ pub record Demand3 (chip : Chip) (plan : Plan) (old : List ℕ) (count : ℕ) (n
       → AsksImage (plan .chip) (plan .table) new t stop
       → AsksImage (plan .chip) (plan .table) old t before
       → AsksPlan plan t planned
-      → NeverSlower chip stop before planned
+      → NeverSlower (shapeOf chip (plan .table)) stop before planned
   -- "After the last write it is exactly the plan's."
   pub at-last : length (scriptFor plan) ≤ count → (t : ℕ) (stop planned : Asked)
       → AsksImage (plan .chip) (plan .table) new t stop
       → AsksPlan plan t planned
       → stop ≡ planned
   -- "At any stop every byte outside that fan table is as before."
-  pub outside : (k : ℕ) → Outside k (positions (tableOf chip (plan .table))) → getD new k 0 ≡ getD old k 0
+  pub outside : (k : ℕ) → Outside k (touched chip (plan .table)) → getD new k 0 ≡ getD old k 0
   -- and there are as many bytes as before
   pub as-long : length new ≡ length old
 

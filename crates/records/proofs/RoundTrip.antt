@@ -9,7 +9,7 @@ use borrow.Author.Tests.{ltb-false, le-ltb, eqb-true, not-false}
 use lib.Dec.{eqb}
 use lib.ListN.{length, getD, take, drop, length-append, length-drop}
 use lib.Seq.{getD-drop, length-take-le}
-use Rattle.refusal.specs.Checks.{first}
+use Rattle.refusal.specs.Checks.{first, roomChecks}
 use Rattle.refusal.proofs.Passed.{all-passed, first-passed, first-front, when-passed, told-passed}
 use Rattle.refusal.specs.declared.Count.{Count}
 use Rattle.refusal.specs.declared.Count.the-variants as counted
@@ -27,7 +27,7 @@ use Rattle.plans.proofs.Laws.{accepted, accepted-known}
 use Rattle.records.specs.declared.Found.{Found}
 use Rattle.curves.specs.Values.{Sized}
 use Rattle.records.specs.Records.{bodyLength, recordLength, recordOf, encoded, chipIn, tableIn, bodyIn, noPlan, planIn, ownOf, own}
-use Rattle.records.specs.Contracts.{bodyChecks, bodyPlanChecks, recordChecks, roomChecks, writeChecks, ReadsRecord, WritesRecord}
+use Rattle.records.specs.Contracts.{bodyChecks, bodyPlanChecks, recordChecks, writeChecks, ReadsRecord, WritesRecord}
 use Rattle.bodies.proofs.Laws.{decoded-chip, decoded-table}
 use Rattle.records.proofs.Answers.{told-of, whole-body, Complete, complete-judged}
 use Rattle.records.proofs.Encoding.{body-of-plan, record-of-plan, decode-encode, own-judged, encode-decode}

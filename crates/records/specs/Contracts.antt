@@ -8,7 +8,7 @@ use lib.Dec.{eqb, ltb}
 use lib.ListN.{length, getD, drop}
 use Rattle.refusal.specs.declared.Count.{Count}
 use Rattle.refusal.specs.Answers.{tellsCount}
-use Rattle.refusal.specs.Checks.{Check, first, told, left}
+use Rattle.refusal.specs.Checks.{Check, first, told, left, roomChecks}
 use Rattle.cards.specs.Cards.{chipOf, whenKnown, unknown, noTable}
 use Rattle.curves.specs.declared.Plan.{Plan}
 use Rattle.plans.specs.Contracts.{orderChecks, planChecks}
@@ -39,10 +39,6 @@ bodyPlanChecks chip table bytes = bodyChecks chip table bytes ++ orderChecks (pl
 abbrev pub recordChecks : List ℕ → List Check
 recordChecks bytes =
     (headerCutShort bytes, 1) ∷ (wrongMark bytes, 2) ∷ bodyPlanChecks (chipIn bytes) (tableIn bytes) (bodyIn bytes)
-
--- refusal 9: "the output buffer is shorter than the result", of as many bytes
-abbrev pub roomChecks : ℕ → List ℕ → List Check
-roomChecks bytes out = (ltb (length out) bytes, 9) ∷ []
 
 -- "Writing a plan record .. checks the plan by 3, 4, 6, 7 and then 9"
 abbrev pub writeChecks : Plan → List ℕ → List Check

@@ -1,13 +1,25 @@
 -- The contracts of the parts of `records`.
 -- Assumes nothing.
+use Prim.Native.Nat.{ℕ}
 use mathlib.Core.Path.{_≡_}
+use mathlib.Core.List.{List, _++_}
+use lib.ListN.{length, drop}
 use Rattle.refusal.specs.declared.Refusal.{Refusal}
+use Rattle.refusal.specs.declared.Count.{Count}
 use Rattle.refusal.specs.declared.Count.the-variants as counted
+use Rattle.refusal.specs.Answers.{tellsCount}
+use Rattle.refusal.specs.Checks.{told, left, roomChecks}
+use Rattle.cards.specs.declared.types.Chip.{Chip}
+use Rattle.curves.specs.declared.Plan.{Plan}
 use Rattle.records.specs.declared.Found.{Found}
-use Rattle.records.specs.Records.{noPlan}
+use Rattle.records.specs.Records.{recordOf, noPlan}
 
--- The contracts of the parts.
 -- a refused record
 pub record Refuses (refusal : Refusal) (r : Found) : Type 0 where
   pub answer : r .answer ≡ counted.Refused refusal
   pub plan : r .plan ≡ noPlan
+
+-- the record of a chip's plan at the front of a buffer, or nothing
+pub record Puts (chip : Chip) (plan : Plan) (old : List ℕ) (r : Count) (new : List ℕ) : Type 0 where
+  pub answer : tellsCount r ≡ told (roomChecks (length (recordOf chip plan)) old) (length (recordOf chip plan))
+  pub bytes : new ≡ left (roomChecks (length (recordOf chip plan)) old) (recordOf chip plan ++ drop (length (recordOf chip plan)) old) old

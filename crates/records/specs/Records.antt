@@ -4,13 +4,12 @@ use Prim.Native.Nat.{ℕ, _+_}
 use mathlib.Core.List.{List, [], _∷_, _++_}
 use lib.ListN.{length, getD, drop}
 use Rattle.cards.specs.declared.types.Chip.{Chip}
-use Rattle.cards.specs.declared.types.Chip.the-variants.{Nct7802y, F75373s, Nct80}
 use Rattle.cards.specs.Rows.{positions}
-use Rattle.cards.specs.Cards.{chipOf, whenKnown, tableOf}
+use Rattle.cards.specs.Cards.{chipOf, whenKnown, tableOf, shapeOf}
 use Rattle.curves.specs.declared.Plan.{Plan}
 use Rattle.curves.specs.Values.{noSlope, noSteps}
-use Rattle.curves.specs.Planned.{planned}
-use Rattle.bodies.specs.Bodies.{body, decoded}
+use Rattle.bodies.specs.Bodies.{body, decoded, ownOf}
+use Rattle.plans.specs.Plans.{plannedFor}
 
 -- "a two-byte mark 43h 50h before each plan, chip, table"
 abbrev pub header : ℕ → ℕ → List ℕ
@@ -26,7 +25,7 @@ recordLength chip = 4 + bodyLength chip
 
 -- a plan's record: "then the body in the register order"
 abbrev pub recordOf : Chip → Plan → List ℕ
-recordOf chip plan = header (plan .chip) (plan .table) ++ body (planned chip plan)
+recordOf chip plan = header (plan .chip) (plan .table) ++ body (plannedFor chip plan)
 
 abbrev pub encoded : Plan → List ℕ
 encoded plan = whenKnown (chipOf (plan .chip)) (λ chip. recordOf chip plan) []
@@ -47,17 +46,12 @@ noPlan = record { chip = 0; table = 0; slope = noSlope; steps = noSteps }
 
 -- the plan of a chip, a table and the bytes of a body; bytes behind the body do not matter
 abbrev pub planOf : ℕ → ℕ → List ℕ → Plan
-planOf chip table bytes = whenKnown (chipOf chip) (λ c. decoded c table bytes) noPlan
+planOf chip table bytes = whenKnown (chipOf chip) (λ c. decoded (shapeOf c table) chip table bytes) noPlan
 
 -- the plan in a record's bytes
 abbrev pub planIn : List ℕ → Plan
 planIn bytes = planOf (chipIn bytes) (tableIn bytes) (bodyIn bytes)
 
 -- "those of the other chip are zero in what is read": what comes back of a plan
-abbrev pub ownOf : Chip → Plan → Plan
-ownOf Nct7802y plan = record { chip = plan .chip; table = plan .table; slope = plan .slope; steps = noSteps }
-ownOf F75373s plan = record { chip = plan .chip; table = plan .table; slope = noSlope; steps = plan .steps }
-ownOf Nct80 plan = record { chip = plan .chip; table = plan .table; slope = noSlope; steps = noSteps }
-
 abbrev pub own : Plan → Plan
-own plan = whenKnown (chipOf (plan .chip)) (λ chip. ownOf chip plan) noPlan
+own plan = whenKnown (chipOf (plan .chip)) (λ chip. ownOf (shapeOf chip (plan .table)) plan) noPlan

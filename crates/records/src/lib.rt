@@ -1,17 +1,21 @@
 // Plan records: read from bytes, and written to a lent buffer.
+use bodies::LONGEST;
 use cards::Chip;
 use cards::Fan;
 use cards::Named;
 use curves::NO_SLOPE;
 use curves::NO_STEPS;
 use curves::Plan;
+use images::Admitted;
 use refusal::Count;
 use refusal::Outcome;
 use refusal::Refusal;
 ghost use mathlib.Core.Path.{_≡_};
-ghost use lib.ListN.{getD};
-ghost use Rattle.records.specs.Records.{bodyLength, recordOf};
-ghost use Rattle.records.specs.Parts.{Refuses};
+ghost use mathlib.Core.Bool.{So};
+ghost use mathlib.Core.List.{_++_};
+ghost use Rattle.cards.specs.Cards.{hasTable};
+ghost use Rattle.records.specs.Records.{header};
+ghost use Rattle.records.specs.Parts.{Refuses, Puts};
 ghost use Rattle.records.specs.Contracts.{TakesBody, ReadsRecord, WritesRecord};
 
 // What is read: the bytes used, and the plan, which is all zeros where the record is refused.
@@ -34,16 +38,6 @@ fn refused(refusal: Refusal) -> Found
     }
 }
 
-// "9 bytes for chip 1, 14 for chip 2"; a chip with no fan table has no body.
-fn body_length(chip: Chip) -> usize
-    ensures { λ r. ⌜ r ≡ bodyLength chip ⌝ }
-{
-    match cards::table_of(chip, 1) {
-        Fan::Nothing => 0,
-        Fan::Laid(layout) => layout.settings + layout.speeds,
-    }
-}
-
 // The plan of a chip, a table and the body that the bytes begin with, and how many of them it takes.
 pub fn plan_from(chip: u8, table: u8, bytes: &[u8]) -> Found
     ensures { λ r. ⌜ TakesBody chip table (now (bytes .entry)) r ⌝ }
@@ -51,16 +45,17 @@ pub fn plan_from(chip: u8, table: u8, bytes: &[u8]) -> Found
     let Named::Known(known) = cards::chip_of(chip) else {
         return refused(Refusal::NoSuchChip);
     };
-    if let Fan::Nothing = cards::table_of(known, table) {
+    let Fan::Laid(layout) = cards::table_of(known, table) else {
         return refused(Refusal::NoSuchTable);
-    }
-    let length = body_length(known);
+    };
+    let length = layout.settings + layout.speeds;
     if bytes.len() < length {
         return refused(Refusal::BodyCutShort);
     }
+    let shape = layout.shape;
     Found {
         answer: Count::Of(length),
-        plan: bodies::plan_of(known, table, bytes),
+        plan: bodies::plan_of(shape, chip, table, bytes),
     }
 }
 
@@ -89,33 +84,59 @@ pub fn read(bytes: &[u8]) -> Found
     }
 }
 
-// The byte at a place of a plan's record: the mark, chip, table, then the body.
-fn byte_of(chip: Chip, plan: Plan, at: usize) -> u8
-    ensures { λ r. ⌜ r ≡ getD (recordOf chip plan) at 0 ⌝ }
+// No record is longer.
+const LONGEST_RECORD: usize = 18;
+
+// A plan's record: the mark, chip, table, then the body, with zeros behind it.
+fn record_of(chip: u8, table: u8, body: [u8; LONGEST]) -> [u8; LONGEST_RECORD]
+    ensures { λ r. ⌜ r ≡ header chip table ++ body ⌝ }
 {
-    let header = [0x43, 0x50, plan.chip, plan.table];
-    if at < 4 {
-        return header[at];
+    [
+        0x43,
+        0x50,
+        chip,
+        table,
+        body[0],
+        body[1],
+        body[2],
+        body[3],
+        body[4],
+        body[5],
+        body[6],
+        body[7],
+        body[8],
+        body[9],
+        body[10],
+        body[11],
+        body[12],
+        body[13],
+    ]
+}
+
+// Writes the record of a chip's plan to the front of the buffer.
+fn put(chip: Chip, plan: Plan, out: &mut [u8]) -> Count
+    requires { ⌜ So (hasTable chip (plan .table)) ⌝ }
+    ensures { λ r. ⌜ Puts chip plan (now (out .entry)) r (now (out .exit)) ⌝ }
+{
+    let layout = cards::layout_of(chip, plan.table);
+    let length = 4 + layout.settings + layout.speeds;
+    if out.len() < length {
+        return Count::Refused(Refusal::OutputTooShort);
     }
-    bodies::byte_of(chip, plan, at - 4)
+    let shape = layout.shape;
+    let bytes = record_of(plan.chip, plan.table, bodies::body_of(shape, plan));
+    for at in 0..length {
+        out[at] = bytes[at];
+    }
+    Count::Of(length)
 }
 
 // Writes a plan's record to the front of the buffer, and answers its length.
 pub fn write(plan: Plan, out: &mut [u8]) -> Count
     ensures { λ r. ⌜ WritesRecord plan (now (out .entry)) r (now (out .exit)) ⌝ }
 {
-    let Named::Known(chip) = cards::chip_of(plan.chip) else {
-        return Count::Refused(Refusal::NoSuchChip);
-    };
-    if let Outcome::Refused(refusal) = plans::judge(plan) {
-        return Count::Refused(refusal);
+    match plans::accept(plan) {
+        Admitted::Refused(refusal) => Count::Refused(refusal),
+        Admitted::Known(chip) => put(chip, plan, out),
     }
-    let length = 4 + body_length(chip);
-    if out.len() < length {
-        return Count::Refused(Refusal::OutputTooShort);
-    }
-    for at in 0..length {
-        out[at] = byte_of(chip, plan, at);
-    }
-    Count::Of(length)
 }

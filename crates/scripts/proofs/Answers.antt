@@ -10,14 +10,13 @@ use lib.ListN.{length, drop}
 use lib.Seq.{take-all}
 use Rattle.refusal.specs.declared.Refusal.{Refusal}
 use Rattle.refusal.specs.Refusals.{numberOf}
-use Rattle.refusal.specs.Checks.{Check, first, left}
+use Rattle.refusal.specs.Checks.{Check, first, left, roomChecks}
 use Rattle.refusal.proofs.Numbers.{numberOf-positive}
 use Rattle.refusal.proofs.Passed.{numbered, first-passed, first-refused, when-refused, told-refused}
 use Rattle.refusal.specs.declared.Count.{Count}
 use Rattle.refusal.specs.declared.Count.the-variants as counted
 use Rattle.curves.specs.declared.Plan.{Plan}
 use Rattle.plans.specs.Contracts.{planChecks}
-use Rattle.records.specs.Contracts.{roomChecks}
 use Rattle.scripts.specs.declared.making.Target.{Target}
 use Rattle.scripts.specs.Scripts.{Pair, flat, scriptFor}
 use Rattle.scripts.specs.Contracts.{scriptChecks, Scripts}

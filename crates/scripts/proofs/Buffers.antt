@@ -12,14 +12,13 @@ use lib.ListN.{length, getD, take, drop}
 use lib.Seq.{take-suc}
 use Rattle.refusal.specs.declared.Refusal.{Refusal}
 use Rattle.refusal.specs.Refusals.{numberOf}
-use Rattle.refusal.specs.Checks.{first}
+use Rattle.refusal.specs.Checks.{first, roomChecks}
 use Rattle.refusal.proofs.Passed.{told-passed}
 use Rattle.refusal.specs.declared.Count.{Count}
 use Rattle.refusal.specs.declared.Count.the-variants as counted
 use Rattle.refusal.specs.Answers.{tellsCount}
 use Rattle.curves.specs.declared.Plan.{Plan}
 use Rattle.plans.specs.Contracts.{planChecks}
-use Rattle.records.specs.Contracts.{roomChecks}
 use Rattle.scripts.specs.Scripts.{Pair, flat, pairsIn, scriptFor}
 use Rattle.scripts.specs.Contracts.{scriptChecks, Scripts}
 use Rattle.scripts.proofs.Answers.{first-alone}

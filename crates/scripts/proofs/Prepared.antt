@@ -9,7 +9,7 @@ use borrow.Author.Tests.{ltb-true, ltb-false, le-ltb, not-false}
 use lib.Dec.{eqb, ltb}
 use lib.ListN.{length, getD, take, drop, length-append, List·getD-append}
 use lib.Seq.{take-suc, getD-append-add}
-use Rattle.refusal.specs.Checks.{first}
+use Rattle.refusal.specs.Checks.{first, roomChecks}
 use Rattle.refusal.proofs.Passed.{Passed, all-passed}
 use Rattle.refusal.specs.declared.Count.{Count}
 use Rattle.refusal.specs.Answers.{tellsCount}
@@ -26,7 +26,7 @@ use Rattle.plans.specs.Contracts.{planChecks}
 use Rattle.curves.specs.Values.{Sized}
 use Rattle.bodies.specs.Bodies.{body}
 use Rattle.records.specs.Records.{header, recordOf, encoded}
-use Rattle.records.specs.Contracts.{roomChecks, WritesRecord}
+use Rattle.records.specs.Contracts.{WritesRecord}
 use Rattle.records.proofs.Encoding.{record-short}
 use Rattle.scripts.specs.declared.making.Target.{Target}
 use Rattle.scripts.specs.Scripts.{Pair, fullOf, script, scriptOf, scriptFor}

@@ -9,10 +9,9 @@ use borrow.Author.Tests.{lt-ltb, le-ltb}
 use lib.ListN.{length, getD, set, drop, length-append, length-set}
 use lib.Seq.{drop-cons, set-at}
 use Rattle.refusal.specs.declared.Refusal.the-variants.{OutputTooShort}
-use Rattle.refusal.specs.Checks.{first}
+use Rattle.refusal.specs.Checks.{first, roomChecks}
 use Rattle.refusal.proofs.Passed.{when-passed, when-refused, told-passed, told-refused}
 use Rattle.refusal.specs.declared.Count.the-variants as counted
-use Rattle.records.specs.Contracts.{roomChecks}
 use Rattle.scripts.specs.declared.making.Target.{Target}
 use Rattle.scripts.specs.Scripts.{Pair, flat}
 use Rattle.scripts.specs.Making.{writesOf, pairAt, pairsOf, Puts}

@@ -1,16 +1,17 @@
--- What `scripts::script` checks, in the paper's order, and promises.
+-- What the calls of `scripts` check, in the paper's order, and promise.
 -- Assumes nothing.
-use Prim.Native.Nat.{ℕ, _+_, _*_}
+use Prim.Native.Nat.{ℕ, _*_, min}
 use mathlib.Core.Path.{_≡_}
 use mathlib.Core.List.{List, _++_}
-use lib.ListN.{length, drop}
+use lib.ListN.{length, take, drop}
 use Rattle.refusal.specs.declared.Count.{Count}
 use Rattle.refusal.specs.Answers.{tellsCount}
-use Rattle.refusal.specs.Checks.{Check, told, left}
+use Rattle.refusal.specs.Checks.{Check, told, left, roomChecks}
+use Rattle.cards.specs.declared.types.Chip.{Chip}
 use Rattle.curves.specs.declared.Plan.{Plan}
 use Rattle.plans.specs.Contracts.{planChecks}
-use Rattle.records.specs.Contracts.{roomChecks}
-use Rattle.scripts.specs.Scripts.{flat, scriptFor}
+use Rattle.scripts.specs.Scripts.{flat, scriptOf, scriptFor}
+use Rattle.scripts.specs.Plays.{played}
 
 -- "Writing .. a script checks the plan by 3, 4, 6, 7 and then 9"
 abbrev pub scriptChecks : Plan → List ℕ → List Check
@@ -25,3 +26,9 @@ pub record ScriptsBy (checks : List Check) (plan : Plan) (old : List ℕ) (r : C
 -- .. and so what `scripts::script` promises
 abbrev pub Scripts : Plan → List ℕ → Count → List ℕ → Type 0
 Scripts plan old r new = ScriptsBy (scriptChecks plan old) plan old r new
+
+-- what `scripts::make` promises, which checks nothing: the first writes of a plan's script, as many as `count` says, "a number above the script's
+-- length means all", made on an image of any length
+pub record Makes (chip : Chip) (plan : Plan) (count : ℕ) (old : List ℕ) (r : ℕ) (new : List ℕ) : Type 0 where
+  pub answer : r ≡ min count (length (scriptOf chip plan))
+  pub bytes : new ≡ played chip (take count (scriptOf chip plan)) old

@@ -1,4 +1,5 @@
 pub mod Scripts
+pub mod Plays
 pub mod Contracts
 pub mod Rules
 pub mod Making

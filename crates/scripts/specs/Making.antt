@@ -1,62 +1,70 @@
--- The contracts of the parts of `scripts`: how a plan's record, read in register order behind the raised speeds, makes its script.
+-- The contracts of the parts of `scripts`: how a plan's body, in register order behind the raised speeds, makes its writes.
 -- Assumes nothing.
-use Prim.Native.Nat.{ℕ, zero, suc, _+_, _-_, _*_, _≤_, _<_}
+use Prim.Native.Nat.{ℕ, zero, suc, _+_, _-_, _*_, _≤_}
 use mathlib.Core.Path.{_≡_}
 use mathlib.Core.Bool.{cond}
 use mathlib.Core.List.{List, [], _∷_, _++_}
 use lib.Dec.{ltb}
-use lib.ListN.{length, getD, take, drop}
+use lib.ListN.{length, getD, drop}
 use Rattle.refusal.specs.declared.Count.{Count}
 use Rattle.refusal.specs.Answers.{tellsCount}
-use Rattle.refusal.specs.Checks.{told, left}
+use Rattle.refusal.specs.Checks.{told, left, roomChecks}
 use Rattle.cards.specs.declared.types.Chip.{Chip}
-use Rattle.cards.specs.declared.types.Chip.the-variants.{Nct80}
+use Rattle.cards.specs.declared.types.Register.{Register}
+use Rattle.cards.specs.Rows.{column}
 use Rattle.cards.specs.Sheets.{registerIn}
-use Rattle.cards.specs.Cards.{chipOf, whenKnown, tablesOf, hasTable, tableOf}
-use Rattle.records.specs.Contracts.{roomChecks}
-use Rattle.scripts.specs.declared.making.Target.{Target}
-use Rattle.scripts.specs.declared.making.Pair as code
-use Rattle.scripts.specs.Scripts.{Pair, fullOf, flat}
+use Rattle.cards.specs.Cards.{sheetOf, tableOf, shapeOf}
+use Rattle.images.specs.Bytes.{storedAt}
+use Rattle.curves.specs.declared.Plan.{Plan}
+use Rattle.curves.specs.Planned.{fullOf}
+use Rattle.bodies.specs.Bodies.{body}
+use Rattle.plans.specs.Plans.{plannedFor}
+use Rattle.scripts.specs.declared.making.Load.{Load}
+use Rattle.scripts.specs.declared.making.Write.{Write}
+use Rattle.scripts.specs.Scripts.{Pair, flat}
 
--- how many pairs there are: the speeds raised, then every register
-abbrev pub writesOf : Target → ℕ
+-- how many writes there are: the speeds raised, then every register
+abbrev pub writesOf : Load → ℕ
 writesOf l = l .speeds + (l .settings + l .speeds)
 
--- the pair of a place, from a plan's record
-unfoldable pub pairAt : Target → List ℕ → ℕ → code.Pair
-pairAt l bytes k =
+-- the register of a table
+abbrev pub registerOf : Load → ℕ → Register
+registerOf l k = registerIn (sheetOf (l .chip)) (l .table) k
+
+-- the write of a place
+unfoldable pub writeAt : Load → ℕ → Write
+writeAt l k =
     cond (ltb k (l .speeds))
-    (record { address = registerIn (tablesOf (l .chip)) (l .table) (l .settings + k); byte = l .full })
-    (record { address = registerIn (tablesOf (l .chip)) (l .table) (k - l .speeds); byte = getD bytes (4 + (k - l .speeds)) 0 })
+    (record { register = registerOf l (l .settings + k); byte = l .full })
+    (record { register = registerOf l (k - l .speeds); byte = getD (l .body) (k - l .speeds) 0 })
 
--- the first n pairs
-abbrev pub pairsOf : Target → List ℕ → ℕ → List Pair
-pairsOf l bytes zero = []
-pairsOf l bytes (suc n) = pairsOf l bytes n ++ ((pairAt l bytes n .address, pairAt l bytes n .byte) ∷ [])
+-- the first n pairs of position and byte
+abbrev pub pairsOf : Load → ℕ → List Pair
+pairsOf l zero = []
+pairsOf l (suc n) = pairsOf l n ++ ((writeAt l n .register .position, writeAt l n .byte) ∷ [])
 
--- no more registers than a record has bytes for
-pub record Short (l : Target) : Type 0 where
+-- an image after the first n writes
+abbrev pub madeOf : Load → ℕ → List ℕ → List ℕ
+madeOf l zero image = image
+madeOf l (suc n) image = storedAt (writeAt l n .register .masks) (writeAt l n .register .position) (writeAt l n .byte) (madeOf l n image)
+
+-- no more registers than a body has bytes, which are all there
+pub record Short (l : Load) : Type 0 where
   pub registers : l .settings + l .speeds ≤ 14
 
--- a chip's table
-abbrev pub target : Chip → ℕ → Target
-target chip table =
-    record { chip = chip; table = table; settings = length (tableOf chip table .settings); speeds = length (tableOf chip table .speeds); full = fullOf chip }
-
--- the table of two numbers; no register where they name none
-abbrev pub targetOf : ℕ → ℕ → Target
-targetOf number table =
-    whenKnown (chipOf number) (λ chip. cond (hasTable chip table) (target chip table) (target Nct80 0)) (target Nct80 0)
-
-pub record Aims (number table : ℕ) (l : Target) : Type 0 where
-  pub answer : l ≡ targetOf number table
-
--- a table and a record give these pairs, as many as are asked for
-pub record Describes (l : Target) (bytes : List ℕ) (pairs : List Pair) : Type 0 where
-  pub writes : writesOf l ≡ length pairs
-  pub places : (n : ℕ) → n ≤ length pairs → pairsOf l bytes n ≡ take n pairs
+-- what is loaded into a chip's table
+abbrev pub loadOf : Chip → Plan → Load
+loadOf chip plan =
+    record {
+      chip = chip;
+      table = plan .table;
+      settings = length (tableOf chip (plan .table) .settings);
+      speeds = length (tableOf chip (plan .table) .speeds);
+      full = fullOf (shapeOf chip (plan .table));
+      body = column 14 (λ k. getD (body (plannedFor chip plan)) k 0);
+    }
 
 -- all pairs at the front of a buffer, or none
-pub record Puts (l : Target) (record-bytes old : List ℕ) (r : Count) (new : List ℕ) : Type 0 where
+pub record Puts (l : Load) (old : List ℕ) (r : Count) (new : List ℕ) : Type 0 where
   pub answer : tellsCount r ≡ told (roomChecks (2 * writesOf l) old) (writesOf l)
-  pub bytes : new ≡ left (roomChecks (2 * writesOf l) old) (flat (pairsOf l record-bytes (writesOf l)) ++ drop (2 * writesOf l) old) old
+  pub bytes : new ≡ left (roomChecks (2 * writesOf l) old) (flat (pairsOf l (writesOf l)) ++ drop (2 * writesOf l) old) old

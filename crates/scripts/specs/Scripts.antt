@@ -4,13 +4,13 @@ use Prim.Native.Nat.{ℕ, zero, suc, _+_, _*_}
 use mathlib.Core.List.{List, [], _∷_, _++_}
 use lib.ListN.{length, getD}
 use Rattle.cards.specs.declared.types.Chip.{Chip}
-use Rattle.cards.specs.declared.types.Chip.the-variants.{Nct7802y, F75373s, Nct80}
 use Rattle.cards.specs.Rows.{Table}
-use Rattle.cards.specs.Cards.{chipOf, whenKnown, tableOf}
+use Rattle.cards.specs.Cards.{chipOf, whenKnown, tableOf, shapeOf}
 use Rattle.curves.specs.declared.Plan.{Plan}
 use Rattle.curves.specs.Curves.{points}
 use Rattle.curves.specs.Orders.{fulls}
-use Rattle.curves.specs.Planned.{Curve, planned}
+use Rattle.curves.specs.Planned.{Curve, fullOf}
+use Rattle.plans.specs.Plans.{plannedFor}
 
 -- "A script is pairs of address and byte."
 abbrev pub Pair : Type 0
@@ -20,12 +20,6 @@ Pair = ℕ × ℕ
 abbrev pub writes : List ℕ → List ℕ → List Pair
 writes registers bytes = points registers bytes
 
--- the fastest that a speed register can hold: "FFh"; "00h"
-abbrev pub fullOf : Chip → ℕ
-fullOf Nct7802y = 0xFF
-fullOf F75373s = 0x00
-fullOf Nct80 = 0x00
-
 -- "FL1 to FL4 to FFh, then T1 to T4, critical, then FL1 to FL4 as planned"; "each high and low byte of C1 to C5 to 00h in address order,
 -- then B1 to B4, then C1 to C5, high byte first": raise every speed, move every setting, settle every speed
 abbrev pub script : ℕ → Table → Curve → List Pair
@@ -33,8 +27,16 @@ script full table curve =
     writes (table .speeds) (fulls full (table .speeds))
     ++ (writes (table .settings) (curve .settings) ++ writes (table .speeds) (curve .speeds))
 
-unfoldable pub scriptOf : Chip → Plan → List Pair
-scriptOf chip plan = script (fullOf chip) (tableOf chip (plan .table)) (planned chip plan)
+-- a plan's writes by position, which the table gives ..
+unfoldable pub placements : Chip → Plan → List Pair
+placements chip plan = script (fullOf (shapeOf chip (plan .table))) (tableOf chip (plan .table)) (plannedFor chip plan)
+
+-- .. and as the bus carries them: the address of a register is its position
+unfoldable pub bus : Chip → List Pair → List Pair
+bus chip ws = ws
+
+abbrev pub scriptOf : Chip → Plan → List Pair
+scriptOf chip plan = bus chip (placements chip plan)
 
 -- "13 writes"; "24 writes": one for each speed, then one for each register
 abbrev pub scriptLength : Chip → ℕ

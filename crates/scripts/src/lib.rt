@@ -1,22 +1,30 @@
-// A plan's byte writes.
+// A plan's byte writes: put in a buffer, or made on an image.
 mod making;
 mod output;
+mod playing;
 
+use cards::Chip;
 use curves::Plan;
+use images::Admitted;
 use refusal::Count;
-ghost use Rattle.scripts.specs.Contracts.{Scripts};
+ghost use Rattle.scripts.specs.Contracts.{Scripts, Makes};
 
-// Writes a plan's script to the front of the buffer, as pairs of address and byte. No record has more than 18 bytes, so only the plan can be
-// refused there.
+// Writes a plan's script to the front of the buffer, as pairs of address and byte.
 pub fn script(plan: Plan, out: &mut [u8]) -> Count
     ensures { λ r. ⌜ Scripts plan (now (out .entry)) r (now (out .exit)) ⌝ }
 {
-    let mut bytes = [0u8; 18];
-    match records::write(plan, &mut bytes) {
-        Count::Refused(refusal) => Count::Refused(refusal),
-        Count::Of(_) => {
-            let target = making::target_of(plan.chip, plan.table);
-            output::put_all(target, bytes, out)
-        }
+    match plans::accept(plan) {
+        Admitted::Refused(refusal) => Count::Refused(refusal),
+        Admitted::Known(chip) => output::put_all(making::load_of(chip, plan), out),
     }
+}
+
+// Makes the first writes of a plan's script on an image, as many as `count` says, or all, and answers how many. Nothing is checked.
+pub fn make(chip: Chip, plan: Plan, count: usize, image: &mut [u8]) -> usize
+    ensures { λ r. ⌜ Makes chip plan count (now (image .entry)) r (now (image .exit)) ⌝ }
+{
+    let load = making::load_of(chip, plan);
+    let writes = playing::least(count, load.length());
+    playing::make_all(load, writes, image);
+    writes
 }

@@ -1,92 +1,70 @@
 // What a script is made from. One rule serves every chip: raise the speeds, then write the body in register order.
+use bodies::LONGEST;
 use cards::Chip;
-use cards::Fan;
-use cards::Named;
+use cards::Register;
+use curves::Plan;
 ghost use Prim.Native.Nat.{_<_};
 ghost use mathlib.Core.Path.{_≡_};
-ghost use Rattle.cards.specs.Sheets.{registerIn};
-ghost use Rattle.cards.specs.Cards.{tablesOf};
-ghost use Rattle.scripts.specs.Scripts.{fullOf};
-ghost use Rattle.scripts.specs.Making.{pairAt, writesOf, Short, Aims};
+ghost use Rattle.scripts.specs.Making.{Short, writesOf, writeAt, loadOf};
 
-// A fan table: its chip and number, how many settings and speeds it has, and the full byte.
-pub struct Target {
+// A fan table, by its chip and number, and what goes there: how many settings and speeds it has, the full byte, and the body.
+pub struct Load {
     pub chip: Chip,
     pub table: u8,
     pub settings: usize,
     pub speeds: usize,
     pub full: u8,
+    pub body: [u8; LONGEST],
 }
 
-pub struct Pair {
-    pub address: u8,
+// A byte to a register.
+pub struct Write {
+    pub register: Register,
     pub byte: u8,
 }
 
-// The address of a table's register.
-fn address_of(chip: Chip, table: u8, k: usize) -> u8
-    ensures { λ r. ⌜ r ≡ registerIn (tablesOf chip) table k ⌝ }
-{
-    cards::register_of(chip, table, k) as u8
-}
+impl Load {
+    // How many writes there are.
+    pub(crate) fn length(self) -> usize
+        requires { ⌜ Short self ⌝ }
+        ensures { λ r. ⌜ r ≡ writesOf self ⌝ }
+    {
+        self.speeds + (self.settings + self.speeds)
+    }
 
-impl Target {
-    // The pair of a place. The body stands from place 4 of the plan's record on.
-    pub(crate) fn pair(self, bytes: [u8; 18], k: usize) -> Pair
+    // The write of a place.
+    pub(crate) fn write(self, k: usize) -> Write
         requires { ⌜ Short self ⌝ }
         requires { ⌜ k < writesOf self ⌝ }
-        ensures { λ r. ⌜ r ≡ pairAt self bytes k ⌝ }
+        ensures { λ r. ⌜ r ≡ writeAt self k ⌝ }
     {
-        let chip = self.chip;
         if k < self.speeds {
-            return Pair {
-                address: address_of(chip, self.table, self.settings + k),
+            return Write {
+                register: cards::register_of(self.chip, self.table, self.settings + k),
                 byte: self.full,
             };
         }
         let j = k - self.speeds;
-        Pair {
-            address: address_of(chip, self.table, j),
-            byte: bytes[4 + j],
+        let body = self.body;
+        Write {
+            register: cards::register_of(self.chip, self.table, j),
+            byte: body[j],
         }
     }
 }
 
-// "FFh"; "00h"
-fn full_of(chip: Chip) -> u8
-    ensures { λ r. ⌜ r ≡ fullOf chip ⌝ }
+// What a plan loads into its table of a chip; where the chip has no such table, no register.
+pub(crate) fn load_of(chip: Chip, plan: Plan) -> Load
+    ensures { λ r. ⌜ r ≡ loadOf chip plan ⌝ }
 {
-    match chip {
-        Chip::Nct7802y => 0xFF,
-        Chip::F75373s => 0x00,
-        Chip::Nct80 => 0x00,
-    }
-}
-
-// No register.
-const NOWHERE: Target = Target {
-    chip: Chip::Nct80,
-    table: 0,
-    settings: 0,
-    speeds: 0,
-    full: 0x00,
-};
-
-// The table of two numbers; where there is none, one without a register.
-pub(crate) fn target_of(chip: u8, table: u8) -> Target
-    ensures { λ r. ⌜ Aims chip table r ⌝ }
-{
-    match cards::chip_of(chip) {
-        Named::Unknown => NOWHERE,
-        Named::Known(known) => match cards::table_of(known, table) {
-            Fan::Nothing => NOWHERE,
-            Fan::Laid(layout) => Target {
-                chip: known,
-                table,
-                settings: layout.settings,
-                speeds: layout.speeds,
-                full: full_of(known),
-            },
-        },
+    let layout = cards::layout_of(chip, plan.table);
+    let shape = layout.shape;
+    Load {
+        chip,
+        table: plan.table,
+        settings: layout.settings,
+        speeds: layout.speeds,
+        full: curves::full_of(shape),
+        body: bodies::body_of(shape, plan),
     }
 }

@@ -1,22 +1,36 @@
 // A script's pairs in a lent buffer.
-use crate::making::Target;
+use crate::making::Load;
+use crate::making::Write;
 use refusal::Count;
 use refusal::Refusal;
+ghost use Prim.Native.Nat.{_+_, _<_};
+ghost use mathlib.Core.Path.{_≡_};
+ghost use lib.ListN.{length, set};
 ghost use Rattle.scripts.specs.Making.{Short, Puts};
 
-pub(crate) fn put_all(target: Target, bytes: [u8; 18], out: &mut [u8]) -> Count
-    requires { ⌜ Short target ⌝ }
-    ensures { λ r. ⌜ Puts target bytes (now (out .entry)) r (now (out .exit)) ⌝ }
+// Puts a pair at a place of the buffer, and answers the place behind it.
+fn put(write: Write, out: &mut [u8], at: usize) -> usize
+    requires { ⌜ write .register .position < 256 ⌝ }
+    requires { ⌜ at + 1 < length (now out) ⌝ }
+    ensures { λ r. ⌜ (r ≡ at + 2) × (now (out .exit) ≡ set (set (now (out .entry)) at (write .register .position)) (at + 1) (write .byte)) ⌝ }
 {
-    let writes = target.speeds + (target.settings + target.speeds);
+    let register = write.register;
+    out[at] = register.position as u8;
+    out[at + 1] = write.byte;
+    at + 2
+}
+
+pub(crate) fn put_all(load: Load, out: &mut [u8]) -> Count
+    requires { ⌜ Short load ⌝ }
+    ensures { λ r. ⌜ Puts load (now (out .entry)) r (now (out .exit)) ⌝ }
+{
+    let writes = load.length();
     if out.len() < 2 * writes {
         return Count::Refused(Refusal::OutputTooShort);
     }
+    let mut at = 0;
     for k in 0..writes {
-        let pair = target.pair(bytes, k);
-        let at = 2 * k;
-        out[at] = pair.address;
-        out[at + 1] = pair.byte;
+        at = put(load.write(k), out, at);
     }
     Count::Of(writes)
 }

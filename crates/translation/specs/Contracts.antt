@@ -6,8 +6,7 @@ use mathlib.Core.List.{List, _++_}
 use lib.ListN.{length, drop}
 use Rattle.refusal.specs.declared.Count.{Count}
 use Rattle.refusal.specs.Answers.{tellsCount}
-use Rattle.refusal.specs.Checks.{told, left}
-use Rattle.records.specs.Contracts.{roomChecks}
+use Rattle.refusal.specs.Checks.{told, left, roomChecks}
 use Rattle.translation.specs.Text.{textOf}
 
 -- what `translation::translate` promises: refused 9 where "the output buffer is shorter than the result"; "An output longer than the result

@@ -1,13 +1,18 @@
--- `plans::asked_of_image` meets its contract: each answer knows the chip, the table and how long the image is; the registers' bytes ask what they do.
+-- `plans::asked_of_image` meets its contract: each answer knows the chip, the table and how long the image is; the registers' bits ask what they do.
 -- Assumes nothing.
 use Prim.Native.Nat.{ℕ}
-use mathlib.Core.Path.{sym, ap, _∙_}
+use mathlib.Core.Path.{_≡_, sym, ap, _∙_}
 use borrow.Author.Tests.{eq-eqb, ne-eqb}
+use Rattle.cards.specs.declared.types.Layout.{Layout}
 use Rattle.cards.specs.declared.types.Sizes.{Sizes}
+use Rattle.cards.specs.Rows.{column}
+use Rattle.cards.specs.Sheets.{registerIn}
+use Rattle.cards.specs.Cards.{sheetOf}
 use Rattle.cards.proofs.Tables.{table-found, table-missed}
 use Rattle.curves.specs.declared.Plan.{Plan}
 use Rattle.curves.specs.Planned.{planned, asks}
 use Rattle.bodies.specs.Bodies.{decoded}
+use Rattle.plans.specs.Parts.{worthAt}
 use Rattle.plans.proofs.Registers.{registers-ask}
 use borrow.Author.Needs.{needs}
 use Rattle.plans.proofs.asked_of_image.Statement.{statement}
@@ -28,8 +33,8 @@ table-of-requires c κs = search needs
 enum-told-2 : tie.Need-enum-told-2
 enum-told-2 c = search needs
 
-enum-told-3 : tie.Need-enum-told-3
-enum-told-3 c = search needs
+enum-known-layout : tie.Need-enum-known-layout
+enum-known-layout c = search needs
 
 sizes-of-requires : tie.Need-sizes-of-requires
 sizes-of-requires c κs = search needs
@@ -37,10 +42,11 @@ sizes-of-requires c κs = search needs
 returns : tie.Need-returns
 returns c =
     let s = c .before .before in
-    let f = s .before .before .before in
+    let l = s .before .before in
+    let f = l .before .before in
     let n = f .before .before in
     let e = sym (n .before .before .chip-of .ensures .answer) ∙ n .known .given .1 in
-    let found = table-found _ (f .table-of .ensures) (s .before .enum-told3 .given .1) in
+    let found = table-found _ (f .table-of .ensures) (l .layout .given .1) in
     let long = ap (λ (z : Sizes). z .image) (s .sizes-of .ensures .answer) in
     record { answer = rw (e, found .0, ne-eqb _ _ (λ q. c .if1 .taken (q ∙ sym long))) }
 
@@ -70,20 +76,25 @@ returns-4 : tie.Need-returns-4
 returns-4 c =
     let h = c .before .before .before in
     let s = h .before .before .before in
-    let f = s .before .before .before in
+    let l = s .before .before in
+    let f = l .before .before in
     let n = f .before .before in
     let a = n .before .before .before .before .args in
     let known = n .known .given .0 .0 in
     let e = sym (n .before .before .chip-of .ensures .answer) ∙ n .known .given .1 in
-    let found = table-found _ (f .table-of .ensures) (s .before .enum-told3 .given .1) in
+    let found = table-found _ (f .table-of .ensures) (l .layout .given .1) in
     let long = ap (λ (z : Sizes). z .image) (s .sizes-of .ensures .answer) in
-    let plan = c .before .plan-of .ensures .answer ∙ ap (decoded known (a .table)) (h .held .ensures) in
+    let shape = l .layout .given .0 .0 .shape in
+    let bytes = column 14 (λ k. worthAt (registerIn (sheetOf known) (a .table) k) (a .image .now)) in
+    let plan : c .before .plan-of .result ≡ decoded shape (a .chip) (a .table) bytes =
+    c .before .plan-of .ensures .answer ∙ ap (decoded shape (a .chip) (a .table)) (h .held .ensures) in
     record {
       answer = rw (e, found .0, eq-eqb _ _ (h .before .if1 .left ∙ long))
           (ap (λ (speed : ℕ). (0, speed))
           (c .speed-of .ensures .answer
-          ∙ ap (λ (p : Plan). asks known (planned known p) (a .t)) plan
-          ∙ registers-ask known (a .table) (a .image .now) (a .t) (found .0)));
+          ∙ ap (λ (p : Plan). asks shape (planned shape p) (a .t)) plan
+          ∙ ap (λ (f : Layout). asks (f .shape) (planned (f .shape) (decoded (f .shape) (a .chip) (a .table) bytes)) (a .t)) (found .1)
+          ∙ registers-ask known (a .chip) (a .table) (a .image .now) (a .t) (found .0)));
     }
 
 pub asked-of-image-spec : {M : Type 1} → statement M
@@ -95,7 +106,7 @@ asked-of-image-spec =
     enum-known-known
     table-of-requires
     enum-told-2
-    enum-told-3
+    enum-known-layout
     sizes-of-requires
     returns
     held-requires

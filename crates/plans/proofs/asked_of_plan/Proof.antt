@@ -2,7 +2,9 @@
 -- Assumes nothing.
 use mathlib.Core.Path.{sym, ap, _∙_}
 use Prim.Native.Nat.{ℕ}
+use Rattle.cards.specs.declared.types.Layout.{Layout}
 use Rattle.cards.proofs.Tables.{table-found, table-missed}
+use Rattle.curves.specs.Planned.{planned, asks}
 use borrow.Author.Needs.{needs}
 use Rattle.plans.proofs.asked_of_plan.Statement.{statement}
 use Rattle.plans.proofs.asked_of_plan.Tie as tie
@@ -19,6 +21,9 @@ enum-known-chip c = search needs
 table-of-requires : tie.Need-table-of-requires
 table-of-requires c κs = search needs
 
+enum-known-layout : tie.Need-enum-known-layout
+enum-known-layout c = search needs
+
 enum-told-2 : tie.Need-enum-told-2
 enum-told-2 c = search needs
 
@@ -28,9 +33,6 @@ returns c =
     let e = sym (k .before .before .before .before .chip-of .ensures .answer) ∙ k .before .before .chip .given .1 in
     record { answer = rw (e, table-missed (k .table-of .ensures) (c .enum-told2 .given .1)) }
 
-enum-told-3 : tie.Need-enum-told-3
-enum-told-3 c = search needs
-
 speed-of-requires : tie.Need-speed-of-requires
 speed-of-requires c κs = search needs
 
@@ -39,10 +41,15 @@ returns-2 c = record { answer = simp (sym (c .before .before .chip-of .ensures .
 
 returns-3 : tie.Need-returns-3
 returns-3 c =
-    let k = c .before .before .before in
+    let l = c .before .before in
+    let k = l .before .before in
+    let a = k .before .before .before .before .before .args in
     let e = sym (k .before .before .before .before .chip-of .ensures .answer) ∙ k .before .before .chip .given .1 in
+    let found = table-found _ (k .table-of .ensures) (l .layout .given .1) in
     record {
-      answer = rw (e, table-found _ (k .table-of .ensures) (c .before .enum-told3 .given .1) .0) (ap (λ (speed : ℕ). (0, speed)) (c .speed-of .ensures .answer));
+      answer = rw (e, found .0)
+          (ap (λ (speed : ℕ). (0, speed))
+          (c .speed-of .ensures .answer ∙ ap (λ (f : Layout). asks (f .shape) (planned (f .shape) (a .plan)) (a .t)) (found .1)));
     }
 
 pub asked-of-plan-spec : {M : Type 1} → statement M
@@ -53,9 +60,9 @@ asked-of-plan-spec =
     enum-told
     enum-known-chip
     table-of-requires
+    enum-known-layout
     enum-told-2
     returns
-    enum-told-3
     speed-of-requires
     returns-2
     returns-3)

@@ -1,19 +1,20 @@
--- `plans::tables::held` meets its contract: the places passed hold the bytes of their registers.
+-- `plans::tables::held` meets its contract: the places passed hold the writable bits of their registers.
 -- Assumes nothing.
 use Prim.Native.Nat.{ℕ, _-_}
 use mathlib.Core.Path.{refl, ap, _∙_}
-use lib.ListN.{getD}
+use Rattle.cards.specs.declared.types.Register.{Register}
 use Rattle.cards.specs.Rows.{column}
 use Rattle.cards.specs.Sheets.{registerIn}
-use Rattle.cards.specs.Cards.{tablesOf}
+use Rattle.cards.specs.Cards.{sheetOf}
 use Rattle.cards.proofs.Columns.{column-length, column-at}
+use Rattle.plans.specs.Parts.{worthAt}
 use Rattle.images.proofs.Filling.{Filled, filled-none, filled-more, filled-all}
 use borrow.Author.Needs.{needs}
 use Rattle.plans.proofs.tables.held.Statement.{statement}
 use Rattle.plans.proofs.tables.held.Tie as tie
 
 abbrev Inv-loop : tie.InvT-loop
-Inv-loop chip table image bytes₀ k₀ bytes k = Filled (λ j. getD image (registerIn (tablesOf chip) table j) 0) 14 bytes k
+Inv-loop chip table image bytes₀ k₀ bytes k = Filled (λ j. worthAt (registerIn (sheetOf chip) table j) image) 14 bytes k
 
 abbrev μ-loop : tie.MeasureT-loop
 μ-loop chip table image bytes₀ k₀ bytes k = 14 - k
@@ -24,8 +25,8 @@ loop-holds c = filled-none _ _ _ refl
 register-of-requires : tie.Need-register-of-requires Inv-loop μ-loop
 register-of-requires c κs = search needs
 
-byte-at-requires : tie.Need-byte-at-requires Inv-loop μ-loop
-byte-at-requires c κs = search needs
+worth-requires : tie.Need-worth-requires Inv-loop μ-loop
+worth-requires c κs = search needs
 
 array-write-bytes : tie.Need-array-write-bytes Inv-loop μ-loop
 array-write-bytes c = search needs
@@ -40,12 +41,12 @@ loop-again : tie.Need-loop-again Inv-loop μ-loop
 loop-again c =
     let a = c .before .before .before .before .before .args in
     filled-more _ (c .before .before .before .loop .inv) (c .before .before .loop-test .taken)
-    (c .byte-at .ensures ∙ ap (λ (position : ℕ). getD (a .image .now) position 0) (c .before .register-of .ensures .answer))
+    (c .worth .ensures ∙ ap (λ (r : Register). worthAt r (a .image .now)) (c .before .register-of .ensures .answer))
 
 returns : tie.Need-returns Inv-loop μ-loop
 returns c =
     let a = c .before .before .before .args in
-    filled-all (c .before .loop .inv) (c .loop-test .left) (column 14 (λ k. getD (a .image .now) (registerIn (tablesOf (a .chip)) (a .table) k) 0))
+    filled-all (c .before .loop .inv) (c .loop-test .left) (column 14 (λ k. worthAt (registerIn (sheetOf (a .chip)) (a .table) k) (a .image .now)))
     (column-length 14 _) (column-at 14 _)
 
 pub held-spec : {M : Type 1} → statement M
@@ -56,7 +57,7 @@ held-spec =
     μ-loop
     loop-holds
     register-of-requires
-    byte-at-requires
+    worth-requires
     array-write-bytes
     add-k
     loop-less

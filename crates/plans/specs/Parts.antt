@@ -1,0 +1,31 @@
+-- The contracts of the parts of `plans`: registers asked one after the other.
+-- Assumes nothing.
+use Prim.Native.Nat.{ℕ, zero, suc}
+use mathlib.Core.Bool.{Bool, true, cond, _&&_}
+use mathlib.Core.List.{List}
+use lib.Bits.{bitAnd}
+use lib.Dec.{eqb}
+use lib.ListN.{getD}
+use Rattle.cards.specs.declared.types.Chip.{Chip}
+use Rattle.cards.specs.declared.types.Layout.{Layout}
+use Rattle.cards.specs.declared.types.Register.{Register}
+use Rattle.cards.specs.Sheets.{registerIn}
+use Rattle.cards.specs.Cards.{sheetOf}
+use Rattle.curves.specs.declared.Plan.{Plan}
+use Rattle.curves.specs.Planned.{planned}
+use Rattle.bodies.specs.Bodies.{body}
+
+-- the writable bits of a register
+abbrev pub worthAt : Register → List ℕ → ℕ
+worthAt register image = bitAnd (getD image (register .position) 0) (register .masks .writable)
+
+-- n registers, from one place on, can hold the values of these places
+abbrev pub fitFrom : (ℕ → Register) → List ℕ → ℕ → ℕ → Bool
+fitFrom register values place zero = true
+fitFrom register values place (suc n) =
+    eqb (bitAnd (getD values place 0) (register place .masks .writable)) (getD values place 0) && fitFrom register values (suc place) n
+
+-- .. those of a plan, by its table's layout
+abbrev pub planFits : Chip → Plan → Layout → ℕ → ℕ → Bool
+planFits chip plan layout place n =
+    cond (layout .whole) true (fitFrom (registerIn (sheetOf chip) (plan .table)) (body (planned (layout .shape) plan)) place n)
