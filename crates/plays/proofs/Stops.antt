@@ -21,7 +21,7 @@ use Rattle.plans.proofs.Laws.{Accepted}
 use Rattle.scripts.specs.Scripts.{Pair, writes, script, placements, scriptOf}
 use Rattle.scripts.specs.Plays.{laid, played, stops, touched}
 use Rattle.scripts.specs.Rules.{Outside, Rule}
-use Rattle.scripts.proofs.Bus.{bus-length, bus-cut, bus-stops, played-length}
+use Rattle.scripts.proofs.Bus.{bus-plain, bus-cut, bus-stops, played-length}
 use Rattle.scripts.proofs.Memory.{Memory, puts, AllElsewhere, elsewhere-writes, elsewhere-append}
 use Rattle.scripts.proofs.Safe.{curveIn, asked, plays, never-slower, ends-planned}
 use Rattle.plays.proofs.Rules.{ruleOf}
@@ -118,7 +118,7 @@ module _ (chip : Chip) (plan : Plan) (accepted : Accepted chip plan) (old : List
       → held chip (plan .table) (played chip (take count (scriptOf chip plan)) (stopped cuts)) ≡ curve
   held-at-last cuts count h =
       let here : length (stopped cuts) ≡ sizeOf chip = stops-length chip (scriptOf chip plan) cuts old ∙ long in
-      let all : length (placements chip plan) ≤ count = subst (λ (n : ℕ). n ≤ count) (bus-length chip (placements chip plan)) h in
+      let all : length (placements chip plan) ≤ count = subst (λ (ws : List Pair). length ws ≤ count) (bus-plain chip (placements chip plan)) h in
       ap (held chip (plan .table)) (bus-cut chip (placements chip plan) (stopped cuts) count)
       ∙ ap (λ (ws : List Pair). held chip (plan .table) (laid chip ws (stopped cuts))) (take-all count (placements chip plan) all)
       ∙ ends-by-position (stopped cuts) here

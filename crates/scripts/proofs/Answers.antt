@@ -1,12 +1,14 @@
--- What each answer of `script` knows is what its contract asks: the plan is refused, or the pairs are put where there is room.
+-- What each answer of `script` knows is what its contract asks: the plan is refused, or the pairs are put where there is room; and so of `make`.
 -- Assumes nothing.
-use Prim.Native.Nat.{ℕ, zero, suc, _*_}
+use Prim.Native.Nat.{ℕ, zero, suc, _*_, _≤_, min}
+use native.Mathlib.Nat.{min-eq-left, min-eq-right, min-le-right}
 use native.Mathlib.Omega.{arith}
 use mathlib.Core.Path.{_≡_, refl, sym, ap, ap₂, _∙_}
-use mathlib.Core.Bool.{So, cond}
+use mathlib.Core.Bool.{Bool, true, false, So, cond}
 use mathlib.Core.List.{List, _++_}
-use lib.Dec.{eqb}
-use lib.ListN.{length, drop}
+use borrow.Author.Tests.{leb-true, leb-false}
+use lib.Dec.{eqb, leb}
+use lib.ListN.{length, take, drop}
 use lib.Seq.{take-all}
 use Rattle.refusal.specs.declared.Refusal.{Refusal}
 use Rattle.refusal.specs.Refusals.{numberOf}
@@ -15,12 +17,17 @@ use Rattle.refusal.proofs.Numbers.{numberOf-positive}
 use Rattle.refusal.proofs.Passed.{numbered, first-passed, first-refused, when-refused, told-refused}
 use Rattle.refusal.specs.declared.Count.{Count}
 use Rattle.refusal.specs.declared.Count.the-variants as counted
+use Rattle.cards.specs.declared.types.Chip.{Chip}
 use Rattle.curves.specs.declared.Plan.{Plan}
+use Rattle.curves.specs.Values.{Typed}
 use Rattle.plans.specs.Contracts.{planChecks}
-use Rattle.scripts.specs.declared.making.Target.{Target}
-use Rattle.scripts.specs.Scripts.{Pair, flat, scriptFor}
-use Rattle.scripts.specs.Contracts.{scriptChecks, Scripts}
-use Rattle.scripts.specs.Making.{writesOf, pairsOf, Describes, Puts}
+use Rattle.scripts.specs.declared.making.Load.{Load}
+use Rattle.scripts.specs.Scripts.{Pair, flat, scriptOf, scriptFor}
+use Rattle.scripts.specs.Plays.{played}
+use Rattle.scripts.specs.Contracts.{scriptChecks, Scripts, Makes}
+use Rattle.scripts.specs.Making.{writesOf, pairsOf, madeOf, loadOf, Puts}
+use Rattle.scripts.proofs.Turns.{pairs-length}
+use Rattle.scripts.proofs.Prepared.{load-writes, load-makes}
 
 -- a refusal by the first checks is one by all of them
 pub still-refused : (r : Refusal) (checks more : List Check) → numberOf r ≡ first checks → numberOf r ≡ first (checks ++ more)
@@ -43,17 +50,41 @@ module _ (plan : Plan) (out : List ℕ) where
       let all = still-refused r (planChecks plan) (roomChecks (2 * length pairs) out) e in
       record { answer = told-refused r (scriptChecks plan out) (length pairs) all; bytes = when-refused r _ out all }
 
-  pub script-put : {l : Target} {bytes new : List ℕ} {r : Count} → first (planChecks plan) ≡ 0 → Describes l bytes pairs → Puts l bytes out r new
+  pub script-put : {l : Load} {new : List ℕ} {r : Count} → first (planChecks plan) ≡ 0 → pairsOf l (writesOf l) ≡ pairs → Puts l out r new
       → Scripts plan out r new
-  script-put {l} {bytes} {new} {r} e d p =
-      let whole : pairsOf l bytes (writesOf l) ≡ pairs =
-      d .places (writesOf l) (omega (arith, d .writes)) ∙ take-all (writesOf l) pairs (omega (arith, d .writes)) in
+  script-put {l} {new} {r} e whole p =
+      let writes : writesOf l ≡ length pairs = sym (pairs-length l (writesOf l)) ∙ ap length whole in
       let checks : first (roomChecks (2 * writesOf l) out) ≡ first (scriptChecks plan out) =
-      ap (λ (n : ℕ). first (roomChecks (2 * n) out)) (d .writes) ∙ sym (first-passed (planChecks plan) (roomChecks (2 * length pairs) out) refl e) in
+      ap (λ (n : ℕ). first (roomChecks (2 * n) out)) writes ∙ sym (first-passed (planChecks plan) (roomChecks (2 * length pairs) out) refl e) in
       record {
-        answer = p .answer ∙ ap₂ (λ (n w : ℕ). (n, cond (eqb n 0) w 0)) checks (d .writes);
+        answer = p .answer ∙ ap₂ (λ (n w : ℕ). (n, cond (eqb n 0) w 0)) checks writes;
         bytes =
             p .bytes
-            ∙ ap₂ (λ (n w : ℕ). cond (eqb n 0) (flat (pairsOf l bytes (writesOf l)) ++ drop (2 * w) out) out) checks (d .writes)
+            ∙ ap₂ (λ (n w : ℕ). cond (eqb n 0) (flat (pairsOf l (writesOf l)) ++ drop (2 * w) out) out) checks writes
             ∙ ap (λ (ws : List Pair). left (scriptChecks plan out) (flat ws ++ drop (2 * length pairs) out) out) whole;
       }
+
+-- the first of as many as there are
+take-least : (count : ℕ) (ws : List Pair) → take (min count (length ws)) ws ≡ take count ws
+take-least count ws = by-size (leb count (length ws)) refl
+  where
+    by-size : (t : Bool) → leb count (length ws) ≡ t → take (min count (length ws)) ws ≡ take count ws
+    by-size true e = ap (λ (n : ℕ). take n ws) (min-eq-left (leb-true count (length ws) e))
+    by-size false e =
+        let past : length ws ≤ count = omega (arith, leb-false count (length ws) e) in
+        ap (λ (n : ℕ). take n ws) (min-eq-right past) ∙ take-all (length ws) ws (omega arith) ∙ sym (take-all count ws past)
+
+-- as many writes as are asked for, or all
+pub made-script : (chip : Chip) (plan : Plan) (count : ℕ) {n w : ℕ} {old new : List ℕ} → Typed plan → w ≡ writesOf (loadOf chip plan) → n ≡ min count w
+    → new ≡ madeOf (loadOf chip plan) n old → Makes chip plan count old n new
+made-script chip plan count {n} {w} {old} typed e q m =
+    let all : n ≡ min count (length (scriptOf chip plan)) = q ∙ ap (min count) (e ∙ load-writes chip plan typed) in
+    let some : n ≤ writesOf (loadOf chip plan) = rw (q ∙ ap (min count) e) (min-le-right count (writesOf (loadOf chip plan))) in
+    record {
+      answer = all;
+      bytes =
+          m
+          ∙ load-makes chip plan typed n some old
+          ∙ ap (λ (k : ℕ). played chip (take k (scriptOf chip plan)) old) all
+          ∙ ap (λ (ws : List Pair). played chip ws old) (take-least count (scriptOf chip plan));
+    }

@@ -12,9 +12,10 @@ use Rattle.images.proofs.Laws.{lands, storedAt-length}
 use Rattle.scripts.specs.Scripts.{Pair, bus}
 use Rattle.scripts.specs.Plays.{laid, played, stops}
 
-pub bus-length : (chip : Chip) (ws : List Pair) → length (bus chip ws) ≡ length ws
+-- today a write on the bus is a write by position, and nothing comes between them
+pub bus-plain : (chip : Chip) (ws : List Pair) → bus chip ws ≡ ws
 unfolding bus
-bus-length chip ws = refl
+bus-plain chip ws = refl
 
 pub played-length : (chip : Chip) (ws : List Pair) (image : List ℕ) → length (played chip ws image) ≡ length image
 played-length chip [] image = refl
@@ -34,8 +35,7 @@ played-laid chip (w ∷ ws) image =
 
 -- some number of writes on the bus is some number of writes by position
 pub bus-cut : (chip : Chip) (ws : List Pair) (image : List ℕ) (k : ℕ) → played chip (take k (bus chip ws)) image ≡ laid chip (take k ws) image
-unfolding bus
-bus-cut chip ws image k = played-laid chip (take k ws) image
+bus-cut chip ws image k = rw (bus-plain chip ws) (played-laid chip (take k ws) image)
 
 -- and so for any list of cuts
 pub bus-stops : (chip : Chip) (ws : List Pair) (image : List ℕ) (cuts : List ℕ)

@@ -1,6 +1,6 @@
 pub mod Memory
 pub mod Safe
-pub mod Filled
+pub mod Bus
 pub mod Pairs
 pub mod Turns
 pub mod Prepared

@@ -1,139 +1,149 @@
--- What is made from a plan's record is its script: the record's body stands behind its header in register order.
+-- What is made of a load is the plan's script: first every speed register with the full byte, then every register with the bytes of the plan's body.
 -- Assumes nothing.
 use Prim.Native.Nat.{ℕ, zero, suc, _+_, _-_, _≤_, _<_}
 use native.Mathlib.Omega.{arith}
 use mathlib.Core.Path.{_≡_, refl, sym, ap, ap₂, subst, _∙_}
-use mathlib.Core.Bool.{Bool, true, false, So, cond, true≢false}
-use mathlib.Core.List.{List, [], _∷_, _++_, append-assoc}
-use borrow.Author.Tests.{ltb-true, ltb-false, le-ltb, not-false}
-use lib.Dec.{eqb, ltb}
-use lib.ListN.{length, getD, take, drop, length-append, List·getD-append}
-use lib.Seq.{take-suc, getD-append-add}
-use Rattle.refusal.specs.Checks.{first, roomChecks}
-use Rattle.refusal.proofs.Passed.{Passed, all-passed}
-use Rattle.refusal.specs.declared.Count.{Count}
-use Rattle.refusal.specs.Answers.{tellsCount}
+use mathlib.Core.Bool.{Bool, true, false, So}
+use mathlib.Core.List.{List, [], _∷_, _++_}
+use borrow.Author.Tests.{ltb-true, ltb-false}
+use lib.Dec.{ltb}
+use lib.ListN.{length, getD, take, length-append}
+use lib.Seq.{take-suc, take-all}
 use Rattle.cards.specs.declared.types.Chip.{Chip}
-use Rattle.cards.specs.declared.types.Chip.the-variants.{Nct80}
-use Rattle.cards.specs.declared.types.Named.{Named}
-use Rattle.cards.specs.declared.types.Named.the-variants.{Known, Unknown}
-use Rattle.cards.specs.Sheets.{registerIn}
-use Rattle.cards.specs.Cards.{chipOf, whenKnown, tablesOf, hasTable, tableOf}
-use Rattle.cards.proofs.Tables.{table-short}
+use Rattle.cards.specs.declared.types.Masks.{Masks}
+use Rattle.cards.specs.declared.types.Register.{Register}
+use Rattle.cards.specs.Rows.{Table, positions, column, registerAt, masksIn}
+use Rattle.cards.specs.Sheets.{missing, registerIn}
+use Rattle.cards.specs.Cards.{sheetOf, cardOf, rowOf, hasTable, tableOf, shapeOf}
+use Rattle.cards.proofs.Columns.{column-at}
+use Rattle.cards.proofs.Tables.{table-short, table-none, register-position, register-at}
+use Rattle.images.specs.Bytes.{storedAt, placed}
 use Rattle.curves.specs.declared.Plan.{Plan}
-use Rattle.curves.specs.Planned.{Curve, planned}
-use Rattle.plans.specs.Contracts.{planChecks}
-use Rattle.curves.specs.Values.{Sized}
+use Rattle.curves.specs.Planned.{fullOf}
+use Rattle.curves.specs.Values.{Typed}
 use Rattle.bodies.specs.Bodies.{body}
-use Rattle.records.specs.Records.{header, recordOf, encoded}
-use Rattle.records.specs.Contracts.{WritesRecord}
-use Rattle.records.proofs.Encoding.{record-short}
-use Rattle.scripts.specs.declared.making.Target.{Target}
-use Rattle.scripts.specs.Scripts.{Pair, fullOf, script, scriptOf, scriptFor}
-use Rattle.scripts.specs.Making.{writesOf, pairAt, pairsOf, Short, target, targetOf, Aims, Describes}
-use Rattle.scripts.proofs.Filled.{settings-fill, speeds-fill}
-use Rattle.scripts.proofs.Answers.{first-alone}
+use Rattle.plans.specs.Plans.{plannedFor}
+use Rattle.plans.proofs.Fits.{settings-long, speeds-long}
+use Rattle.scripts.specs.declared.making.Load.{Load}
+use Rattle.scripts.specs.declared.making.Write.{Write}
+use Rattle.scripts.specs.Scripts.{Pair, script, placements, scriptOf}
+use Rattle.scripts.specs.Plays.{laid, played}
+use Rattle.scripts.specs.Making.{writesOf, registerOf, writeAt, pairsOf, madeOf, Short, loadOf}
+use Rattle.scripts.proofs.Bus.{bus-plain, bus-cut, laid-append}
 use Rattle.scripts.proofs.Pairs.{nothing, script-length, raised-at, body-at}
 
--- a byte of the body, behind the header and before whatever follows the record
-body-byte : (number table : ℕ) (inside tail : List ℕ) (j : ℕ) → j < length inside
-    → getD ((header number table ++ inside) ++ tail) (4 + j) 0 ≡ getD inside j 0
-body-byte number table inside tail j h =
-    ap (λ (l : List ℕ). getD l (4 + j) 0) (append-assoc (header number table) inside tail)
-    ∙ getD-append-add (header number table) (inside ++ tail) j 0
-    ∙ List·getD-append inside tail 0 j h
+-- no more registers than a body has bytes
+pub load-short : (chip : Chip) (plan : Plan) → Short (loadOf chip plan)
+load-short chip plan =
+    let table = tableOf chip (plan .table) in
+    record { registers = omega (arith, table-short chip (plan .table), length-append (table .settings) (table .speeds)) }
 
--- a list of pairs is described by what stands at each of its places
-described : (l : Target) (bytes : List ℕ) (pairs : List Pair) → writesOf l ≡ length pairs
-    → ((k : ℕ) → k < length pairs → (pairAt l bytes k .address, pairAt l bytes k .byte) ≡ getD pairs k nothing)
-    → Describes l bytes pairs
-described l bytes pairs e at = record { writes = e; places = places }
-  where
-    places : (n : ℕ) → n ≤ length pairs → pairsOf l bytes n ≡ take n pairs
-    places zero h = refl
-    places (suc n) h =
-        ap₂ (λ (ws : List Pair) (w : Pair). ws ++ w ∷ []) (places n (omega arith)) (at n h) ∙ sym (take-suc pairs n nothing h)
+-- a load gives these pairs, by their places
+pub record Describes (l : Load) (pairs : List Pair) : Type 0 where
+  pub writes : writesOf l ≡ length pairs
+  pub places : (k : ℕ) → k < length pairs → (writeAt l k .register .position, writeAt l k .byte) ≡ getD pairs k nothing
 
--- of a table that the curve fills
-module _ (chip : Chip) (number table : ℕ) (curve : Curve) (tail : List ℕ)
-    (es : length (tableOf chip table .settings) ≡ length (curve .settings)) (ev : length (tableOf chip table .speeds) ≡ length (curve .speeds)) where
+-- and so its first pairs are the first of them
+pub described : (l : Load) (pairs : List Pair) → Describes l pairs → (n : ℕ) → n ≤ length pairs → pairsOf l n ≡ take n pairs
+described l pairs d zero h = refl
+described l pairs d (suc n) h =
+    ap₂ (λ (ws : List Pair) (w : Pair). ws ++ w ∷ []) (described l pairs d n (omega arith)) (d .places n h) ∙ sym (take-suc pairs n nothing h)
+
+module _ (chip : Chip) (plan : Plan) where
+  abbrev load : Load
+  load = loadOf chip plan
+
+  abbrev table : Table
+  table = tableOf chip (plan .table)
+
   abbrev s : ℕ
-  s = length (tableOf chip table .settings)
+  s = length (table .settings)
 
   abbrev v : ℕ
-  v = length (tableOf chip table .speeds)
-
-  abbrev bytes : List ℕ
-  bytes = (header number table ++ body curve) ++ tail
+  v = length (table .speeds)
 
   abbrev pairs : List Pair
-  pairs = script (fullOf chip) (tableOf chip table) curve
+  pairs = script (fullOf (shapeOf chip (plan .table))) table (plannedFor chip plan)
 
-  at-place : (k : ℕ) → k < v + (s + v) → (pairAt (target chip table) bytes k .address, pairAt (target chip table) bytes k .byte) ≡ getD pairs k nothing
-  unfolding pairAt
-  at-place k h = by-side (ltb k v) refl
+  -- of a table that the plan fills
+  module _ (es : s ≡ length (plannedFor chip plan .settings)) (ev : v ≡ length (plannedFor chip plan .speeds)) where
+    at-place : (k : ℕ) → k < v + (s + v) → (writeAt load k .register .position, writeAt load k .byte) ≡ getD pairs k nothing
+    unfolding writeAt
+    at-place k h = by-side (ltb k v) refl
+      where
+        by-side : (raised : Bool) → ltb k v ≡ raised → (writeAt load k .register .position, writeAt load k .byte) ≡ getD pairs k nothing
+        by-side true t =
+            rw t
+            (ap (λ (p : ℕ). (p, fullOf (shapeOf chip (plan .table)))) (register-position chip (plan .table) (s + k))
+            ∙ sym (raised-at (fullOf (shapeOf chip (plan .table))) table (plannedFor chip plan) es ev k (ltb-true k v t)))
+        by-side false t =
+            let past : v ≤ k = ltb-false k v t in
+            let j : k - v < s + v = omega arith in
+            let whole : v + (k - v) ≡ k = omega arith in
+            let short = load-short chip plan .registers in
+            let byte = column-at 14 (λ n. getD (body (plannedFor chip plan)) n 0) (k - v) (omega arith) in
+            rw t
+            (ap₂ (λ (p b : ℕ). (p, b)) (register-position chip (plan .table) (k - v)) byte
+            ∙ sym (body-at (fullOf (shapeOf chip (plan .table))) table (plannedFor chip plan) es ev (k - v) j)
+            ∙ ap (λ (n : ℕ). getD pairs n nothing) whole)
+
+    filled : Describes load pairs
+    filled =
+        let long = script-length (fullOf (shapeOf chip (plan .table))) table (plannedFor chip plan) es ev in
+        record { writes = sym long; places = λ k h. at-place k (subst (λ (n : ℕ). k < n) long h) }
+
+  -- and of one that the chip does not have: no write
+  empty : table ≡ missing → Describes load pairs
+  empty e = rw e (record { writes = refl; places = λ k h. absurd (omega arith) })
+
+  load-describes : Typed plan → Describes load (placements chip plan)
+  unfolding placements
+  load-describes typed = by-table (hasTable chip (plan .table)) refl
     where
-      by-side : (raised : Bool) → ltb k v ≡ raised
-          → (pairAt (target chip table) bytes k .address, pairAt (target chip table) bytes k .byte) ≡ getD pairs k nothing
-      by-side true t = rw t (sym (raised-at (fullOf chip) (tableOf chip table) curve es ev k (ltb-true k v t)))
-      by-side false t =
-          let past : v ≤ k = ltb-false k v t in
-          let j : k - v < s + v = omega arith in
-          let whole : v + (k - v) ≡ k = omega arith in
-          let long : k - v < length (body curve) = omega (arith, es, ev, length-append (curve .settings) (curve .speeds)) in
-          rw t
-          (ap (λ (b : ℕ). (registerIn (tablesOf chip) table (k - v), b)) (body-byte number table (body curve) tail (k - v) long)
-          ∙ sym (body-at (fullOf chip) (tableOf chip table) curve es ev (k - v) j)
-          ∙ ap (λ (n : ℕ). getD pairs n nothing) whole)
+      by-table : (has : Bool) → hasTable chip (plan .table) ≡ has → Describes load pairs
+      by-table true t = filled (settings-long chip plan typed t) (speeds-long chip plan typed t)
+      by-table false t = empty (table-none chip (plan .table) t)
 
-  pub laid-describes : Describes (target chip table) bytes pairs
-  laid-describes =
-      let long = script-length (fullOf chip) (tableOf chip table) curve es ev in
-      described (target chip table) bytes pairs (sym long) (λ k h. at-place k (subst (λ (n : ℕ). k < n) long h))
-
--- a plan's script, whatever follows its record
-pub describes-plan : (chip : Chip) (plan : Plan) (tail : List ℕ) → Sized plan → So (hasTable chip (plan .table))
-    → Describes (target chip (plan .table)) (recordOf chip plan ++ tail) (scriptOf chip plan)
-unfolding scriptOf
-describes-plan chip plan tail long has =
-    laid-describes chip (plan .chip) (plan .table) (planned chip plan) tail (settings-fill chip plan long has) (speeds-fill chip plan long has)
-
-pub short-target : {number table : ℕ} {l : Target} → Aims number table l → Short l
-short-target {number} {table} {l} aims = rw (aims .answer) (by-name (chipOf number))
-  where
-    nowhere : Short (target Nct80 0)
-    nowhere = record { registers = omega arith }
-
-    by-table : (chip : Chip) (has : Bool) → hasTable chip table ≡ has → Short (cond has (target chip table) (target Nct80 0))
-    by-table chip true t =
-        record { registers = omega (arith, table-short chip table, length-append (tableOf chip table .settings) (tableOf chip table .speeds)) }
-    by-table chip false t = nowhere
-
-    by-name : (named : Named) → Short (whenKnown named (λ chip. cond (hasTable chip table) (target chip table) (target Nct80 0)) (target Nct80 0))
-    by-name (Known chip) = by-table chip (hasTable chip table) refl
-    by-name Unknown = nowhere
-
-module _ {plan : Plan} {old bytes : List ℕ} {used : Count} (long : Sized plan) (room : length old ≡ 18) (w : WritesRecord plan old used bytes) where
-  -- there is room for the record, so only the plan's own checks count
-  pub judged : tellsCount used .0 ≡ first (planChecks plan)
-  judged =
-      ap (λ (t : ℕ × ℕ). t .0) (w .answer)
-      ∙ first-alone (planChecks plan) (roomChecks (length (encoded plan)) old) refl
-      (λ e. rw (le-ltb (length old) (length (encoded plan)) (omega (arith, record-short plan long))))
-
-  -- and an accepted plan's script is described
-  pub prepared : {l : Target} → Aims (plan .chip) (plan .table) l → first (planChecks plan) ≡ 0 → Describes l bytes (scriptFor plan)
-  prepared {l} lays e = rw (lays .answer) (by-name (chipOf (plan .chip)) refl)
+  -- each register of a write has the masks of its position
+  masked : (k : ℕ) → k < writesOf load → writeAt load k .register .masks ≡ masksIn (rowOf chip (writeAt load k .register .position))
+  unfolding writeAt rowOf
+  masked k h = by-side (ltb k v) refl
     where
-      checks : Passed (planChecks plan)
-      checks = all-passed (planChecks plan) refl e
+      known : (j : ℕ) → j < s + v → registerOf load j .masks ≡ masksIn (rowOf chip (registerOf load j .position))
+      known j l =
+          let at = register-at chip (plan .table) j (omega (arith, length-append (table .settings) (table .speeds))) in
+          ap (λ (r : Register). r .masks) at ∙ sym (ap (λ (r : Register). masksIn (rowOf chip (r .position))) at)
 
-      taken : bytes ≡ encoded plan ++ drop (length (encoded plan)) old
-      taken = w .bytes ∙ ap (λ (n : ℕ). cond (eqb n 0) (encoded plan ++ drop (length (encoded plan)) old) old) (sym (ap (λ (t : ℕ × ℕ). t .0) (w .answer)) ∙ judged ∙ e)
+      by-side : (raised : Bool) → ltb k v ≡ raised → writeAt load k .register .masks ≡ masksIn (rowOf chip (writeAt load k .register .position))
+      by-side true t = rw t (known (s + k) (omega (arith, ltb-true k v t)))
+      by-side false t = rw t (known (k - v) (omega (arith, ltb-false k v t)))
 
-      by-name : (named : Named) → chipOf (plan .chip) ≡ named → Describes (targetOf (plan .chip) (plan .table)) bytes (scriptFor plan)
-      by-name (Known chip) q =
-          let has : hasTable chip (plan .table) ≡ true = not-false (hasTable chip (plan .table)) (rw q at (checks .1 .0)) in
-          let whole : bytes ≡ recordOf chip plan ++ drop (length (recordOf chip plan)) old = rw q at taken in
-          rw (q, has, whole) (describes-plan chip plan (drop (length (recordOf chip plan)) old) long has)
-      by-name Unknown q = absurd (true≢false (rw q at (checks .0)))
+  -- so what is made on an image is what the writes by position do
+  made-laid : (n : ℕ) → n ≤ writesOf load → (image : List ℕ) → madeOf load n image ≡ laid chip (pairsOf load n) image
+  made-laid zero h image = refl
+  made-laid (suc n) h image =
+      let w = writeAt load n in
+      ap (λ (m : Masks). storedAt m (w .register .position) (w .byte) (madeOf load n image)) (masked n h)
+      ∙ ap (placed chip (w .register .position) (w .byte)) (made-laid n (omega arith) image)
+      ∙ sym (laid-append chip (pairsOf load n) ((w .register .position, w .byte) ∷ []) image)
+
+  module _ (typed : Typed plan) where
+    places : Describes load (placements chip plan)
+    places = load-describes typed
+
+    pub load-writes : writesOf load ≡ length (scriptOf chip plan)
+    load-writes = places .writes ∙ sym (ap length (bus-plain chip (placements chip plan)))
+
+    -- all pairs are the script
+    pub load-pairs : pairsOf load (writesOf load) ≡ scriptOf chip plan
+    load-pairs =
+        described load (placements chip plan) places (writesOf load) (omega (arith, places .writes))
+        ∙ take-all (writesOf load) (placements chip plan) (omega (arith, places .writes))
+        ∙ sym (bus-plain chip (placements chip plan))
+
+    -- and some number of writes is that many of the script's on the bus
+    pub load-makes : (n : ℕ) → n ≤ writesOf load → (image : List ℕ) → madeOf load n image ≡ played chip (take n (scriptOf chip plan)) image
+    load-makes n h image =
+        made-laid n h image
+        ∙ ap (λ (ws : List Pair). laid chip ws image) (described load (placements chip plan) places n (omega (arith, places .writes)))
+        ∙ sym (bus-cut chip (placements chip plan) image n)

@@ -1,20 +1,26 @@
--- A turn of the loop: one more pair in the buffer.
+-- A turn of each loop: one more pair in the buffer, or one more write on the image.
 -- Assumes nothing.
-use Prim.Native.Nat.{ℕ, zero, suc, _+_, _*_, _≤_, _<_}
+use Prim.Native.Nat.{ℕ, zero, suc, _+_, _-_, _*_, _≤_, _<_}
 use native.Mathlib.Numerals.{add-one}
 use native.Mathlib.Omega.{arith}
 use mathlib.Core.Path.{_≡_, refl, sym, ap, ap₂, _∙_}
+use mathlib.Core.Bool.{Bool, true, false, cond}
 use mathlib.Core.List.{List, [], _∷_, _++_, append-assoc}
 use borrow.Author.Tests.{lt-ltb, le-ltb}
+use lib.Dec.{ltb}
 use lib.ListN.{length, getD, set, drop, length-append, length-set}
 use lib.Seq.{drop-cons, set-at}
 use Rattle.refusal.specs.declared.Refusal.the-variants.{OutputTooShort}
 use Rattle.refusal.specs.Checks.{first, roomChecks}
 use Rattle.refusal.proofs.Passed.{when-passed, when-refused, told-passed, told-refused}
 use Rattle.refusal.specs.declared.Count.the-variants as counted
-use Rattle.scripts.specs.declared.making.Target.{Target}
+use Rattle.cards.proofs.Tables.{register-byte}
+use Rattle.images.specs.Bytes.{storedAt}
+use Rattle.images.proofs.Laws.{storedAt-length}
+use Rattle.scripts.specs.declared.making.Load.{Load}
+use Rattle.scripts.specs.declared.making.Write.{Write}
 use Rattle.scripts.specs.Scripts.{Pair, flat}
-use Rattle.scripts.specs.Making.{writesOf, pairAt, pairsOf, Puts}
+use Rattle.scripts.specs.Making.{writesOf, registerOf, writeAt, pairsOf, madeOf, Puts}
 
 flat-append : (xs ys : List Pair) → flat (xs ++ ys) ≡ flat xs ++ flat ys
 flat-append [] ys = refl
@@ -24,26 +30,38 @@ flat-length : (xs : List Pair) → length (flat xs) ≡ 2 * length xs
 flat-length [] = refl
 flat-length (x ∷ xs) = omega (arith, flat-length xs)
 
-pairs-length : (l : Target) (bytes : List ℕ) (n : ℕ) → length (pairsOf l bytes n) ≡ n
-pairs-length l bytes zero = refl
-pairs-length l bytes (suc n) =
-    length-append (pairsOf l bytes n) ((pairAt l bytes n .address, pairAt l bytes n .byte) ∷ [])
-    ∙ add-one (length (pairsOf l bytes n))
-    ∙ ap suc (pairs-length l bytes n)
+pub pairs-length : (l : Load) (n : ℕ) → length (pairsOf l n) ≡ n
+pairs-length l zero = refl
+pairs-length l (suc n) =
+    length-append (pairsOf l n) ((writeAt l n .register .position, writeAt l n .byte) ∷ [])
+    ∙ add-one (length (pairsOf l n))
+    ∙ ap suc (pairs-length l n)
+
+-- a register's position is an address
+pub write-address : (l : Load) (k : ℕ) → writeAt l k .register .position < 256
+unfolding writeAt
+write-address l k = by-side (ltb k (l .speeds))
+  where
+    by-side : (raised : Bool)
+        → cond {A = Write} raised (record { register = registerOf l (l .settings + k); byte = l .full })
+        (record { register = registerOf l (k - l .speeds); byte = getD (l .body) (k - l .speeds) 0 }) .register .position < 256
+    by-side true = register-byte (l .chip) (l .table) (l .settings + k)
+    by-side false = register-byte (l .chip) (l .table) (k - l .speeds)
 
 -- the first k pairs stand in the buffer, which has room for all, and the rest of it is as it was
-pub record Written (l : Target) (bytes old out : List ℕ) (k : ℕ) : Type 0 where
+pub record Written (l : Load) (old out : List ℕ) (at k : ℕ) : Type 0 where
+  pub cursor : at ≡ 2 * k
   pub within : k ≤ writesOf l
   pub room : 2 * writesOf l ≤ length old
   pub long : length out ≡ length old
-  pub same : out ≡ flat (pairsOf l bytes k) ++ drop (2 * k) old
+  pub same : out ≡ flat (pairsOf l k) ++ drop (2 * k) old
 
-pub written-none : (l : Target) (bytes old : List ℕ) → 2 * writesOf l ≤ length old → Written l bytes old old 0
-written-none l bytes old h = record { within = omega arith; room = h; long = refl; same = refl }
+pub written-none : (l : Load) (old : List ℕ) → 2 * writesOf l ≤ length old → Written l old old 0 0
+written-none l old h = record { cursor = refl; within = omega arith; room = h; long = refl; same = refl }
 
 -- the next pair lies in the buffer
-pub next-inside : {l : Target} {bytes old out : List ℕ} {k : ℕ} → Written l bytes old out k → k < writesOf l → 2 * k + 1 < length out
-next-inside w h = omega (arith, w .room, w .long)
+pub next-inside : {l : Load} {old out : List ℕ} {at k : ℕ} → Written l old out at k → k < writesOf l → at + 1 < length out
+next-inside w h = omega (arith, w .cursor, w .room, w .long)
 
 -- two bytes at the seam of two lists
 two-at : (front : List ℕ) (x y : ℕ) (back : List ℕ) (a b n : ℕ) → length front ≡ n
@@ -54,43 +72,72 @@ two-at front x y back a b n e =
     ∙ append-assoc front (a ∷ []) (b ∷ back)
     ∙ sym (append-assoc front (a ∷ (b ∷ [])) back)
 
-pub written-more : {l : Target} {bytes old out : List ℕ} {k : ℕ} (a b : ℕ) → Written l bytes old out k → k < writesOf l
-    → a ≡ pairAt l bytes k .address → b ≡ pairAt l bytes k .byte
-    → Written l bytes old (set (set out (2 * k) a) (2 * k + 1) b) (k + 1)
-written-more {l} {bytes} {old} {out} {k} a b w h ea eb =
+pub written-more : {l : Load} {old out new : List ℕ} {at next k : ℕ} (write : Write) → Written l old out at k → k < writesOf l → write ≡ writeAt l k
+    → next ≡ at + 2 → new ≡ set (set out at (write .register .position)) (at + 1) (write .byte) → Written l old new next (k + 1)
+written-more {l} {old} {out} {new} {at} {next} {k} write w h same moved wrote =
+    let a = writeAt l k .register .position in
+    let b = writeAt l k .byte in
+    let put : new ≡ set (set out (2 * k) a) (2 * k + 1) b =
+    wrote ∙ ap₂ (λ (x : Write) (j : ℕ). set (set out j (x .register .position)) (j + 1) (x .byte)) same (w .cursor) in
     let inside : 2 * k < length old = omega (arith, w .room) in
     let next : suc (2 * k) < length old = omega (arith, w .room) in
-    let front = flat (pairsOf l bytes k) in
+    let front = flat (pairsOf l k) in
     let split : drop (2 * k) old ≡ getD old (2 * k) 0 ∷ (getD old (suc (2 * k)) 0 ∷ drop (suc (suc (2 * k))) old) =
     drop-cons old (2 * k) 0 inside ∙ ap (λ (xs : List ℕ). getD old (2 * k) 0 ∷ xs) (drop-cons old (suc (2 * k)) 0 next) in
     let past : suc (suc (2 * k)) ≡ 2 * (k + 1) = omega arith in
-    let long : length (flat (pairsOf l bytes k)) ≡ 2 * k = flat-length (pairsOf l bytes k) ∙ ap (λ (j : ℕ). 2 * j) (pairs-length l bytes k) in
-    let pairs : flat (pairsOf l bytes (k + 1)) ≡ front ++ a ∷ (b ∷ []) =
-    ap (λ (j : ℕ). flat (pairsOf l bytes j)) (add-one k)
-    ∙ flat-append (pairsOf l bytes k) ((pairAt l bytes k .address, pairAt l bytes k .byte) ∷ [])
-    ∙ ap₂ (λ (x y : ℕ). front ++ x ∷ (y ∷ [])) (sym ea) (sym eb) in
+    let long : length (flat (pairsOf l k)) ≡ 2 * k = flat-length (pairsOf l k) ∙ ap (λ (j : ℕ). 2 * j) (pairs-length l k) in
+    let pairs : flat (pairsOf l (k + 1)) ≡ front ++ a ∷ (b ∷ []) =
+    ap (λ (j : ℕ). flat (pairsOf l j)) (add-one k)
+    ∙ flat-append (pairsOf l k) ((a, b) ∷ []) in
     record {
+      cursor = omega (arith, moved, w .cursor);
       within = omega arith;
       room = w .room;
-      long = length-set (set out (2 * k) a) (2 * k + 1) b ∙ length-set out (2 * k) a ∙ w .long;
+      long = ap length put ∙ length-set (set out (2 * k) a) (2 * k + 1) b ∙ length-set out (2 * k) a ∙ w .long;
       same =
-          ap (λ (xs : List ℕ). set (set xs (2 * k) a) (2 * k + 1) b) (w .same ∙ ap (λ (xs : List ℕ). front ++ xs) split)
+          put
+          ∙ ap (λ (xs : List ℕ). set (set xs (2 * k) a) (2 * k + 1) b) (w .same ∙ ap (λ (xs : List ℕ). front ++ xs) split)
           ∙ two-at front (getD old (2 * k) 0) (getD old (suc (2 * k)) 0) (drop (suc (suc (2 * k))) old) a b (2 * k) long
           ∙ ap₂ (λ (xs ys : List ℕ). xs ++ ys) (sym pairs) (ap (λ (j : ℕ). drop j old) past);
     }
 
 -- all of them, or none where there is no room
-pub put-all : {l : Target} {bytes old out : List ℕ} {k : ℕ} → Written l bytes old out k → writesOf l ≤ k
-    → Puts l bytes old (counted.Of (writesOf l)) out
-put-all {l} {bytes} {old} {out} {k} w h =
+pub put-all : {l : Load} {old out : List ℕ} {at k n : ℕ} → n ≡ writesOf l → Written l old out at k → n ≤ k → Puts l old (counted.Of n) out
+put-all {l} {old} {out} {at} {k} {n} e w h =
     let all : k ≡ writesOf l = omega (arith, w .within) in
     let none : first (roomChecks (2 * writesOf l) old) ≡ 0 = rw (le-ltb (length old) (2 * writesOf l) (w .room)) in
     record {
-      answer = told-passed (roomChecks (2 * writesOf l) old) (writesOf l) none;
-      bytes = w .same ∙ ap (λ (j : ℕ). flat (pairsOf l bytes j) ++ drop (2 * j) old) all ∙ when-passed _ old none;
+      answer = ap (λ (m : ℕ). (0, m)) e ∙ told-passed (roomChecks (2 * writesOf l) old) (writesOf l) none;
+      bytes = w .same ∙ ap (λ (j : ℕ). flat (pairsOf l j) ++ drop (2 * j) old) all ∙ when-passed _ old none;
     }
 
-pub put-none : (l : Target) (bytes old : List ℕ) → length old < 2 * writesOf l → Puts l bytes old (counted.Refused OutputTooShort) old
-put-none l bytes old h =
+pub put-none : (l : Load) (old : List ℕ) → length old < 2 * writesOf l → Puts l old (counted.Refused OutputTooShort) old
+put-none l old h =
     let all : 9 ≡ first (roomChecks (2 * writesOf l) old) = rw (lt-ltb (length old) (2 * writesOf l) h) in
     record { answer = told-refused OutputTooShort (roomChecks (2 * writesOf l) old) (writesOf l) all; bytes = when-refused OutputTooShort _ old all }
+
+-- the first k writes are made on an image, which keeps its length
+pub record Made (l : Load) (n : ℕ) (old image : List ℕ) (k : ℕ) : Type 0 where
+  pub within : k ≤ n
+  pub long : length image ≡ length old
+  pub same : image ≡ madeOf l k old
+
+pub made-none : (l : Load) (n : ℕ) (old : List ℕ) → Made l n old old 0
+made-none l n old = record { within = omega arith; long = refl; same = refl }
+
+pub made-more : {l : Load} {n : ℕ} {old image new : List ℕ} {k : ℕ} (write : Write) → Made l n old image k → k < n → write ≡ writeAt l k
+    → new ≡ storedAt (write .register .masks) (write .register .position) (write .byte) image → Made l n old new (k + 1)
+made-more {l} {n} {old} {image} {new} {k} write m h same stored =
+    record {
+      within = omega arith;
+      long = ap length stored ∙ storedAt-length (write .register .masks) (write .register .position) (write .byte) image ∙ m .long;
+      same =
+          stored
+          ∙ ap₂ (λ (w : Write) (x : List ℕ). storedAt (w .register .masks) (w .register .position) (w .byte) x) same (m .same)
+          ∙ ap (λ (j : ℕ). madeOf l j old) (sym (add-one k));
+    }
+
+pub made-all : {l : Load} {n : ℕ} {old image : List ℕ} {k : ℕ} → Made l n old image k → n ≤ k → image ≡ madeOf l n old
+made-all {l} {n} {old} {image} {k} m h =
+    let all : k ≡ n = omega (arith, m .within) in
+    m .same ∙ ap (λ (j : ℕ). madeOf l j old) all

@@ -38,16 +38,17 @@ impl Load {
         requires { ⌜ k < writesOf self ⌝ }
         ensures { λ r. ⌜ r ≡ writeAt self k ⌝ }
     {
+        let chip = self.chip;
         if k < self.speeds {
             return Write {
-                register: cards::register_of(self.chip, self.table, self.settings + k),
+                register: cards::register_of(chip, self.table, self.settings + k),
                 byte: self.full,
             };
         }
         let j = k - self.speeds;
         let body = self.body;
         Write {
-            register: cards::register_of(self.chip, self.table, j),
+            register: cards::register_of(chip, self.table, j),
             byte: body[j],
         }
     }

@@ -1,59 +1,67 @@
--- `scripts::script` meets its contract: each answer knows how the plan was judged when its record was written.
+-- `scripts::script` meets its contract: each answer knows how the plan was judged, and the pairs of an accepted plan's load are its script.
 -- Assumes nothing.
-use Rattle.refusal.specs.declared.Count.{Count}
-use Rattle.refusal.specs.Answers.{tellsCount}
-use Rattle.scripts.proofs.Prepared.{short-target, judged, prepared}
-use Rattle.scripts.proofs.Answers.{script-refused, script-put}
+use mathlib.Core.Path.{sym, ap, subst, _∙_}
+use mathlib.Core.List.{[]}
+use Rattle.cards.specs.declared.types.Named.{Named}
+use Rattle.cards.specs.Cards.{whenKnown}
 use Rattle.curves.proofs.Owned.{plan-typed}
-use mathlib.Core.Path.{refl, sym, ap, _∙_}
+use Rattle.plans.proofs.Laws.{refused-plan, accepted-plan, accepted-chip}
+use Rattle.scripts.specs.declared.making.Load.{Load}
+use Rattle.scripts.specs.Scripts.{scriptOf}
+use Rattle.scripts.specs.Making.{writesOf, pairsOf, Short}
+use Rattle.scripts.proofs.Prepared.{load-short, load-pairs}
+use Rattle.scripts.proofs.Answers.{script-refused, script-put}
 use borrow.Author.Needs.{needs}
 use Rattle.scripts.proofs.script.Statement.{statement}
 use Rattle.scripts.proofs.script.Tie as tie
 
-slice-aggregate-write : tie.Need-slice-aggregate-write
-slice-aggregate-write c = search needs
-
-write-requires : tie.Need-write-requires
-write-requires c κs = search needs
+accept-requires : tie.Need-accept-requires
+accept-requires c κs = search needs
 
 enum-known-refusal : tie.Need-enum-known-refusal
 enum-known-refusal c = search needs
 
-enum-told : tie.Need-enum-told
-enum-told c = search needs
+enum-known-chip : tie.Need-enum-known-chip
+enum-known-chip c = search needs
 
-target-of-requires : tie.Need-target-of-requires
-target-of-requires c κs = search needs
+load-of-requires : tie.Need-load-of-requires
+load-of-requires c κs = search needs
 
 put-all-requires : tie.Need-put-all-requires
-put-all-requires c κs = short-target (c .before .target-of .ensures)
+put-all-requires c κs = subst Short (sym (c .before .load-of .ensures)) (load-short _ _)
 
 returns : tie.Need-returns
 returns c =
-    let wrote = c .before .before .before .before in
-    let sized = plan-typed _ _ (wrote .before .before .before .good .0) .sized in
-    script-refused _ _ _ (ap (λ (u : Count). tellsCount u .0) (sym (c .before .refusal .given .1)) ∙ judged sized refl (wrote .write .ensures))
+    let asked = c .before .before .before in
+    script-refused _ _ _ (refused-plan _ (asked .accept .ensures) (c .before .refusal .given .1))
 
 same-length : tie.Need-same-length
 same-length c = search needs
 
 returns-2 : tie.Need-returns-2
 returns-2 c =
-    let laid = c .before .before .before .before in
-    let wrote = laid .before .before .before .before in
-    let sized = plan-typed _ _ (wrote .before .before .before .good .0) .sized in
-    let accepted = sym (judged sized refl (wrote .write .ensures)) ∙ ap (λ (u : Count). tellsCount u .0) (laid .before .enum-told .given .1) in
-    script-put _ _ accepted (prepared sized refl (wrote .write .ensures) (laid .target-of .ensures) accepted) (c .before .before .put-all .ensures)
+    let made = c .before .before .before .before in
+    let known = made .before .before in
+    let asked = known .before .before in
+    let start = asked .before .before in
+    let plan = start .args .plan in
+    let chip = known .chip .given .0 .0 in
+    let typed = plan-typed plan _ (start .good .0) in
+    let told = known .chip .given .1 in
+    let pairs =
+    ap (λ (l : Load). pairsOf l (writesOf l)) (made .load-of .ensures)
+    ∙ load-pairs chip plan typed
+    ∙ ap (λ (n : Named). whenKnown n (λ c. scriptOf c plan) []) (sym (accepted-chip chip (asked .accept .ensures) told)) in
+    script-put _ _ (accepted-plan chip (asked .accept .ensures) told) pairs (c .before .before .put-all .ensures)
 
 pub script-spec : {M : Type 1} → statement M
 script-spec =
     tie.close
     (tie.spec
-    slice-aggregate-write
-    write-requires
+    accept-requires
     enum-known-refusal
-    enum-told
-    target-of-requires
+    enum-known-chip
+    load-of-requires
     put-all-requires
     returns
     same-length
