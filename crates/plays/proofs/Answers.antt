@@ -1,41 +1,27 @@
--- What each answer of `play` knows is what its contract asks: the plan is refused, or its writes are made where identity is confirmed.
+-- What each answer of `play` knows is what its contract asks: the plan is refused, the image is not confirmed, or the writes are made.
 -- Assumes nothing.
-use Prim.Native.Nat.{ℕ, _≤_, min}
-use native.Mathlib.Nat.{min-eq-left, min-eq-right}
-use native.Mathlib.Omega.{arith}
-use mathlib.Core.Path.{_≡_, refl, sym, ap, ap₂, _∙_}
-use mathlib.Core.Bool.{Bool, true, false, cond}
+use Prim.Native.Nat.{ℕ, min}
+use mathlib.Core.Path.{_≡_, refl, sym, ap, _∙_}
 use mathlib.Core.List.{List}
-use borrow.Author.Tests.{leb-true, leb-false}
-use lib.Dec.{eqb, leb}
 use lib.ListN.{length, take}
-use lib.Seq.{take-all}
 use Rattle.refusal.specs.declared.Refusal.{Refusal}
 use Rattle.refusal.specs.Refusals.{numberOf}
 use Rattle.refusal.specs.Checks.{first}
-use Rattle.refusal.proofs.Passed.{all-passed, first-passed, when-refused, told-refused}
-use Rattle.refusal.specs.declared.Count.{Count}
 use Rattle.refusal.specs.declared.Count.the-variants as counted
+use Rattle.refusal.specs.declared.Outcome.the-variants as outcome
+use Rattle.refusal.proofs.Passed.{all-passed, first-passed, when-passed, when-refused, told-passed, told-refused}
+use Rattle.cards.specs.declared.types.Chip.{Chip}
 use Rattle.cards.specs.declared.types.Named.{Named}
-use Rattle.cards.specs.declared.types.Named.the-variants.{Known, Unknown}
+use Rattle.cards.specs.declared.types.Named.the-variants.{Known}
 use Rattle.cards.specs.Cards.{chipOf, whenKnown}
-use Rattle.identities.specs.Contracts.{identityChecks}
+use Rattle.identities.specs.Contracts.{identityChecks, Confirms}
 use Rattle.curves.specs.declared.Plan.{Plan}
 use Rattle.plans.specs.Contracts.{planChecks}
-use Rattle.scripts.specs.Scripts.{Pair, pairsIn, scriptOf, scriptFor}
+use Rattle.scripts.specs.Scripts.{scriptOf, scriptFor}
+use Rattle.scripts.specs.Plays.{played}
+use Rattle.scripts.specs.Contracts.{Makes}
 use Rattle.scripts.proofs.Answers.{still-refused}
-use Rattle.plays.specs.Plays.{played, afterPairs, Makes}
 use Rattle.plays.specs.Contracts.{startChecks, playChecks, Plays}
-
--- the first of as many as there are
-take-least : (count : ℕ) (ws : List Pair) → take (min count (length ws)) ws ≡ take count ws
-take-least count ws = by-size (leb count (length ws)) refl
-  where
-    by-size : (t : Bool) → leb count (length ws) ≡ t → take (min count (length ws)) ws ≡ take count ws
-    by-size true e = ap (λ (n : ℕ). take n ws) (min-eq-left (leb-true count (length ws) e))
-    by-size false e =
-        let past : length ws ≤ count = omega (arith, leb-false count (length ws) e) in
-        ap (λ (n : ℕ). take n ws) (min-eq-right past) ∙ take-all (length ws) ws (omega arith) ∙ sym (take-all count ws past)
 
 module _ (plan : Plan) (image : List ℕ) (count : ℕ) where
   abbrev writes : ℕ
@@ -52,19 +38,19 @@ module _ (plan : Plan) (image : List ℕ) (count : ℕ) where
       first-passed (planChecks plan) (startChecks plan image) refl e
       ∙ sym (rw (all-passed (planChecks plan) refl e .0))
 
-  pub play-made : {bytes new : List ℕ} {n : ℕ} {r : Count} → first (planChecks plan) ≡ 0 → n ≡ writes → pairsIn n bytes ≡ take n (scriptFor plan)
-      → Makes (plan .chip) bytes n image r new → Plays plan image count r new
-  play-made {bytes} {new} {n} {r} e q p m =
-      let pairs : pairsIn n bytes ≡ take count (scriptFor plan) =
-      p ∙ ap (λ (k : ℕ). take k (scriptFor plan)) q ∙ take-least count (scriptFor plan) in
+  pub play-unconfirmed : (r : Refusal) → first (planChecks plan) ≡ 0 → Confirms (plan .chip) image (outcome.Refused r)
+      → Plays plan image count (counted.Refused r) image
+  play-unconfirmed r e c =
+      let all : numberOf r ≡ first (playChecks plan image) = c .answer ∙ sym (same-checks e) in
+      record { answer = told-refused r (playChecks plan image) writes all; bytes = when-refused r _ image all }
+
+  pub play-made : {n : ℕ} {new : List ℕ} (chip : Chip) → chipOf (plan .chip) ≡ Known chip → first (planChecks plan) ≡ 0
+      → Confirms (plan .chip) image outcome.Accepted → Makes chip plan count image n new → Plays plan image count (counted.Of n) new
+  play-made {n} {new} chip named e c m =
+      let none : first (playChecks plan image) ≡ 0 = same-checks e ∙ sym (c .answer) in
+      let all : n ≡ writes = m .answer ∙ rw named in
+      let bytes : new ≡ whenKnown (chipOf (plan .chip)) (λ c. played c (take count (scriptOf c plan)) image) image = m .bytes ∙ rw named in
       record {
-        answer = m .answer ∙ ap₂ (λ (x k : ℕ). (x, cond (eqb x 0) k 0)) (sym (same-checks e)) q;
-        bytes =
-            m .bytes
-            ∙ ap₂ (λ (x : ℕ) (l : List ℕ). cond (eqb x 0) l image) (sym (same-checks e)) (by-name (chipOf (plan .chip)) refl pairs);
+        answer = ap (λ (k : ℕ). (0, k)) all ∙ told-passed (playChecks plan image) writes none;
+        bytes = bytes ∙ when-passed _ image none;
       }
-    where
-      by-name : (named : Named) → chipOf (plan .chip) ≡ named → pairsIn n bytes ≡ take count (scriptFor plan)
-          → afterPairs (plan .chip) bytes n image ≡ whenKnown (chipOf (plan .chip)) (λ c. played c (take count (scriptOf c plan)) image) image
-      by-name (Known chip) t l = rw t (ap (λ (ws : List Pair). played chip ws image) (rw t at l))
-      by-name Unknown t l = rw t

@@ -78,11 +78,15 @@ module _ (chip : Chip) (plan : Plan) (accepted : Accepted chip plan) where
 
   settings-fit : Each (Fit chip) (tableOf chip (plan .table) .settings) (plannedFor chip plan .settings)
   unfolding temperaturesPass
-  settings-fit = each-fit chip _ _ (both (temperaturesInOrder shape plan) _ (accepted .temperatures) .1)
+  settings-fit =
+      each-fit chip (tableOf chip (plan .table) .settings) (plannedFor chip plan .settings)
+      (both (temperaturesInOrder shape plan) _ (accepted .temperatures) .1)
 
   speeds-fit : Each (Fit chip) (tableOf chip (plan .table) .speeds) (plannedFor chip plan .speeds)
   unfolding speedsPass
-  speeds-fit = each-fit chip _ _ (both (speedsInOrder shape plan) _ (accepted .speeds) .1)
+  speeds-fit =
+      each-fit chip (tableOf chip (plan .table) .speeds) (plannedFor chip plan .speeds)
+      (both (speedsInOrder shape plan) _ (accepted .speeds) .1)
 
   pub plan-fits : (old : List ℕ) → Fits (ruleOf shape) (tableOf chip (plan .table)) (worth chip old) (plannedFor chip plan)
   plan-fits old =

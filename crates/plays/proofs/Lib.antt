@@ -1,7 +1,7 @@
 pub mod Rules
 pub mod Played
 pub mod Fitting
-pub mod Turns
+pub mod Stops
 pub mod Answers
 pub mod NeverRefused
 pub mod NeverSlower

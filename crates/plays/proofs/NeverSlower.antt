@@ -22,7 +22,7 @@ use Rattle.plans.specs.declared.Asked.{Asked}
 use Rattle.plans.specs.declared.Asked.the-variants.{Speed}
 use Rattle.plans.specs.Plans.{held, plannedFor}
 use Rattle.plans.specs.Contracts.{planChecks, AsksImage, AsksPlan}
-use Rattle.plans.proofs.Laws.{Accepted, accepted}
+use Rattle.plans.proofs.Laws.{Accepted, passed-plan}
 use Rattle.plans.proofs.Unique.{tellsAsked-injective}
 use Rattle.scripts.specs.Scripts.{scriptOf}
 use Rattle.scripts.specs.Plays.{played}
@@ -34,7 +34,7 @@ use Rattle.plays.proofs.Stops.{asked-at-stop, held-at-last, kept-outsid
 
 -- what a play that is not refused knows of its plan and its image
 record Begun (chip : Chip) (plan : Plan) (image : List ℕ) : Type 0 where
-  plan : Accepted chip plan
+  accepted : Accepted chip plan
   long : length image ≡ sizeOf chip
 
 begun : {plan : Plan} {old new : List ℕ} {count n : ℕ} (chip : Chip) → chipOf (plan .chip) ≡ Known chip → Plays plan old count (counted.Of n) new
@@ -43,7 +43,7 @@ begun {plan} {old} chip e p =
     let none : first (playChecks plan old) ≡ 0 = sym (ap (λ (t : ℕ × ℕ). t .0) (p .answer)) in
     let checks = all-passed (playChecks plan old) refl none in
     record {
-      plan = accepted chip plan e (first-front (planChecks plan) (startChecks plan old) refl none);
+      accepted = passed-plan chip plan e (first-front (planChecks plan) (startChecks plan old) refl none);
       long = eqb-true (length old) (sizeOf chip) (not-false (eqb (length old) (sizeOf chip)) (rw e at (checks .1 .1 .1 .1 .0)));
     }
 
@@ -75,20 +75,20 @@ pub demand-3 : {plan : Plan} {old new : List ℕ} {count n : ℕ} (chip : Chip) 
     → Demand3 chip plan old count new
 demand-3 {plan} {old} {new} {count} chip e p =
     let ok = begun chip e p in
-    let has = ok .plan .has in
+    let has = ok .accepted .has in
     let stop = left-by-play chip e p in
     let long : length new ≡ sizeOf chip = ap length stop ∙ played-length chip (take count (scriptOf chip plan)) old ∙ ok .long in
     record {
       never-slower = λ t s b q atStop before planned.
           rw (image-speed chip e has long atStop, image-speed chip e has (ok .long) before, plan-speed chip e has planned, stop)
-          (asked-at-stop chip plan (ok .plan) old (ok .long) (count ∷ []) t);
+          (asked-at-stop chip plan (ok .accepted) old (ok .long) (count ∷ []) t);
       at-last = λ h t s q atStop planned.
           image-speed chip e has long atStop
           ∙ ap (λ (c : Curve). Speed (asks (shapeOf chip (plan .table)) c t))
-          (ap (held chip (plan .table)) stop ∙ held-at-last chip plan (ok .plan) old (ok .long) [] count (rw e at h))
+          (ap (held chip (plan .table)) stop ∙ held-at-last chip plan (ok .accepted) old (ok .long) [] count (rw e at h))
           ∙ sym (plan-speed chip e has planned);
       outside = λ k out.
-          ap (λ (l : List ℕ). getD l k 0) stop ∙ kept-outside chip plan (ok .plan) old (ok .long) (count ∷ []) k out;
+          ap (λ (l : List ℕ). getD l k 0) stop ∙ kept-outside chip plan (ok .accepted) old (ok .long) (count ∷ []) k out;
       as-long = long ∙ sym (ok .long);
     }
 

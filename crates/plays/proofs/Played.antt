@@ -14,6 +14,7 @@ use lib.ListN.{length, getD, take}
 use Rattle.cards.specs.declared.types.Chip.{Chip}
 use Rattle.cards.specs.Rows.{masksIn, positions}
 use Rattle.cards.specs.Cards.{rowOf, sizeOf, tableOf, worth}
+use Rattle.cards.proofs.Apart.{fitting-byte}
 use Rattle.cards.proofs.Tables.{table-within, table-distinct}
 use Rattle.images.specs.Bytes.{placed}
 use Rattle.images.proofs.Laws.{storedAt-length, storedAt-other, storedAt-takes}
@@ -52,7 +53,7 @@ placed-put chip w image h e = λ i q. at-each q (eqb q (w .0)) refl i
     at-each : (q : ℕ) (there : Bool) → eqb q (w .0) ≡ there → worth chip (placed chip (w .0) (w .1) image) q ≡ put (worth chip image) w q
     at-each q true t =
         ap (worth chip (placed chip (w .0) (w .1) image)) (eqb-true q (w .0) t)
-        ∙ storedAt-takes (masksIn (rowOf chip (w .0))) (w .0) (w .1) image (h .0) (omega (arith, h .1))
+        ∙ storedAt-takes (masksIn (rowOf chip (w .0))) (w .0) (w .1) image (h .0) (fitting-byte chip (w .0) (w .1) (h .0)) (omega (arith, h .1))
         ∙ sym (put-there (worth chip image) (w .0) (w .1))
         ∙ sym (ap (put (worth chip image) w) (eqb-true q (w .0) t))
     at-each q false t =

@@ -1,110 +1,97 @@
 -- `plays::play` meets its contract: each answer knows how the plan was judged and whether the image is confirmed, and demand 3 follows from what
--- is played, since a plan and an image that code holds are typed.
+-- is played.
 -- Assumes nothing.
-use Rattle.refusal.specs.Checks.{first}
+use Prim.Native.Nat.{ℕ}
+use mathlib.Core.Path.{_≡_, subst}
+use mathlib.Core.List.{List}
 use Rattle.refusal.specs.declared.Count.{Count}
-use Rattle.plans.specs.Contracts.{planChecks}
-use Rattle.scripts.specs.Scripts.{scriptFor}
-use Rattle.scripts.proofs.Lengths.{script-short}
-use Rattle.curves.proofs.Owned.{plan-typed}
-use Rattle.scripts.proofs.Buffers.{refused-by-plan, accepted-plan, count, first-pairs}
+use Rattle.refusal.specs.declared.Outcome.{Outcome}
+use Rattle.identities.specs.Contracts.{Confirms}
+use Rattle.curves.specs.declared.Plan.{Plan}
+use Rattle.plans.proofs.Laws.{refused-plan, accepted-plan, accepted-chip}
 use Rattle.plays.specs.Contracts.{Plays}
 use Rattle.plays.specs.NeverSlower.{Safely}
+use Rattle.plays.proofs.Answers.{play-refused, play-unconfirmed, play-made}
 use Rattle.plays.proofs.NeverSlower.{plays-safely}
-use Rattle.plays.proofs.Fitting.{image-within}
-use Rattle.plays.proofs.Answers.{play-refused, play-made}
-use lib.ListN.{length}
-use mathlib.Core.Path.{_≡_, refl, ap, _∙_}
-use native.Mathlib.Nat.{min-le-right}
-use native.Mathlib.Omega.{arith}
-use Prim.Native.Nat.{ℕ, _≤_, min}
-use mathlib.Core.List.{List}
 use borrow.Author.Needs.{needs}
 use Rattle.plays.proofs.play.Statement.{statement}
 use Rattle.plays.proofs.play.Tie as tie
 
 -- both clauses of an answer, from the first
-safe : (c : tie.After-slice-known) {r : Count} {new : List ℕ} → Plays (c .before .args .plan) (c .before .args .image .now) (c .before .args .count) r new
-    → Plays (c .before .args .plan) (c .before .args .image .now) (c .before .args .count) r new
-    × Safely (c .before .args .plan) (c .before .args .image .now) (c .before .args .count) new
-safe c p =
-    let start = c .before in
-    (p, plays-safely (plan-typed (start .args .plan) _ (start .good .0)) (image-within (start .args .image .now) (c .slice-known .given)) p)
+safe : {plan : Plan} {old new : List ℕ} {count : ℕ} {r : Count} → Plays plan old count r new → Plays plan old count r new × Safely plan old count new
+safe p = (p, plays-safely p)
 
--- no more writes are made than there are
-at-most : {n : ℕ} (a b : ℕ) → n ≡ min a b → n ≤ b
-at-most a b e = rw e (min-le-right a b)
+-- what identity answered, once the answer is known
+answered : {chip : ℕ} {image : List ℕ} {r s : Outcome} → Confirms chip image r → r ≡ s → Confirms chip image s
+answered {chip} {image} c e = subst (λ (a : Outcome). Confirms chip image a) e c
 
--- 48 bytes hold the script
-short : (c : tie.Start) → first (planChecks (c .args .plan)) ≡ 0 → length (scriptFor (c .args .plan)) ≤ 24
-short c e = script-short (c .args .plan) (plan-typed (c .args .plan) _ (c .good .0) .sized) e
-
-slice-aggregate-script : tie.Need-slice-aggregate-script
-slice-aggregate-script c = search needs
-
-script-requires : tie.Need-script-requires
-script-requires c κs = search needs
+accept-requires : tie.Need-accept-requires
+accept-requires c κs = search needs
 
 enum-known-refusal : tie.Need-enum-known-refusal
 enum-known-refusal c = search needs
 
-enum-known-writes : tie.Need-enum-known-writes
-enum-known-writes c = search needs
+enum-known-chip : tie.Need-enum-known-chip
+enum-known-chip c = search needs
 
-least-requires : tie.Need-least-requires
-least-requires c κs = search needs
+confirm-requires : tie.Need-confirm-requires
+confirm-requires c κs = search needs
 
-slice-aggregate-make : tie.Need-slice-aggregate-make
-slice-aggregate-make c = search needs
+enum-known-refusal-2 : tie.Need-enum-known-refusal-2
+enum-known-refusal-2 c = search needs
+
+enum-told : tie.Need-enum-told
+enum-told c = search needs
 
 make-requires : tie.Need-make-requires
-make-requires c κs =
-    let chosen = c .before .before in
-    let of = chosen .before .before in
-    let wrote = of .before .before .before in
-    let fits = short (wrote .before .before .before) in
-    let writes = of .writes .given .1 in
-    omega (
-      arith,
-      at-most _ _ (chosen .least .ensures),
-      count fits refl (wrote .script .ensures) _ writes,
-      fits (accepted-plan fits refl (wrote .script .ensures) _ writes),
-      wrote .script .kept .1 .0,
-    )
+make-requires c κs = search needs
 
 returns : tie.Need-returns
 returns c =
-    let wrote = c .before .before .before .before in
-    safe (wrote .before .before)
-    (play-refused _ _ _ _ (refused-by-plan (short (wrote .before .before .before)) refl (wrote .script .ensures) _ (c .before .refusal .given .1)))
+    let asked = c .before .before .before in
+    safe (play-refused _ _ _ _ (refused-plan _ (asked .accept .ensures) (c .before .refusal .given .1)))
 
 same-length : tie.Need-same-length
 same-length c = search needs
 
 returns-2 : tie.Need-returns-2
 returns-2 c =
-    let chosen = c .before .before .before .before .before in
-    let of = chosen .before .before in
-    let wrote = of .before .before .before in
-    let fits = short (wrote .before .before .before) in
-    let writes = of .writes .given .1 in
-    safe (wrote .before .before)
-    (play-made (wrote .before .before .before .args .plan) _ _ (accepted-plan fits refl (wrote .script .ensures) _ writes)
-    (chosen .least .ensures ∙ ap (min _) (count fits refl (wrote .script .ensures) _ writes))
-    (first-pairs fits refl (wrote .script .ensures) _ writes _ (at-most _ _ (chosen .least .ensures)))
-    (c .before .before .make .ensures))
+    let looked = c .before .before .before in
+    let known = looked .before .before .before in
+    let asked = known .before .before in
+    safe
+    (play-unconfirmed _ _ _ _ (accepted-plan _ (asked .accept .ensures) (known .chip .given .1))
+    (answered (looked .confirm .ensures) (c .before .refusal2 .given .1)))
+
+same-length-2 : tie.Need-same-length-2
+same-length-2 c = search needs
+
+returns-3 : tie.Need-returns-3
+returns-3 c =
+    let made = c .before .before in
+    let told = made .before .before in
+    let looked = told .before .before in
+    let known = looked .before .before .before in
+    let asked = known .before .before in
+    let chip = known .chip .given .0 .0 in
+    safe
+    (play-made _ _ _ chip (accepted-chip chip (asked .accept .ensures) (known .chip .given .1))
+    (accepted-plan chip (asked .accept .ensures) (known .chip .given .1))
+    (answered (looked .confirm .ensures) (told .enum-told .given .1)) (made .make .ensures))
 
 pub play-spec : {M : Type 1} → statement M
 play-spec =
     tie.close
     (tie.spec
-    slice-aggregate-script
-    script-requires
+    accept-requires
     enum-known-refusal
-    enum-known-writes
-    least-requires
-    slice-aggregate-make
+    enum-known-chip
+    confirm-requires
+    enum-known-refusal-2
+    enum-told
     make-requires
     returns
     same-length
-    returns-2)
+    returns-2
+    same-length-2
+    returns-3)
