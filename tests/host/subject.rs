@@ -33,28 +33,29 @@ pub trait Subject {
     fn translate(&self, input: &[u8], out: &mut [u8]) -> (u32, usize);
 }
 
-/// The model as it stands: the benchmark's second column.
+/// The model as it stands: the benchmark's second column. The library is called across a boundary,
+/// so none of these is taken into its caller.
 pub struct Model;
 
 #[rustfmt::skip]
 impl Subject for Model {
-    fn write(&self, chip: u8, image: &mut [u8], address: u8, byte: u8) -> u32 { model::write(chip, image, address, byte) }
-    fn read(&self, chip: u8, image: &[u8], address: u8) -> (u32, u8) { model::read(chip, image, address) }
-    fn reset(&self, chip: u8, image: &mut [u8]) -> u32 { model::reset(chip, image) }
-    fn identity(&self, chip: u8, image: &[u8]) -> u32 { model::identity(chip, image) }
-    fn steps_of(&self, width: u8, high: u8, low: u8) -> (u32, i16) { model::steps_of(width, high, low) }
-    fn bytes_of(&self, width: u8, steps: i16) -> (u32, u8, u8) { model::bytes_of(width, steps) }
-    fn microvolts(&self, word: u16) -> u32 { model::microvolts(word) }
-    fn sample(&self, watch: Watch, steps: i16, high: i8, hysteresis: i8) -> (u32, Watch, bool) { let (refusal, after) = model::sample(watch, steps, high, hysteresis); (refusal, after, model::output(after)) }
-    fn run(&self, watch: Watch, samples: &[i16], high: i8, hysteresis: i8) -> (Watch, bool) { let after = model::run(watch, samples, high, hysteresis); (after, model::output(after)) }
-    fn acknowledge(&self, watch: Watch) -> (Watch, bool) { let after = model::acknowledge(watch); (after, model::output(after)) }
-    fn output(&self, watch: Watch) -> bool { model::output(watch) }
-    fn judge(&self, plan: Plan) -> u32 { model::judge(plan) }
-    fn asked_of_plan(&self, plan: Plan, t: u8) -> (u32, u16) { model::asked_of_plan(plan, t) }
-    fn asked_of_image(&self, chip: u8, table: u8, image: &[u8], t: u8) -> (u32, u16) { model::asked_of_image(chip, table, image, t) }
-    fn read_record(&self, bytes: &[u8]) -> (u32, u8, u8, [u8; BODY], usize) { model::read_record(bytes) }
-    fn write_record(&self, plan: Plan, out: &mut [u8]) -> (u32, usize) { model::write_record(plan, out) }
-    fn script(&self, plan: Plan, out: &mut [u8]) -> (u32, usize) { model::script(plan, out) }
-    fn play(&self, plan: Plan, image: &mut [u8], count: usize) -> (u32, usize) { model::play(plan, image, count) }
-    fn translate(&self, input: &[u8], out: &mut [u8]) -> (u32, usize) { model::translate(input, out) }
+    #[inline(never)] fn write(&self, chip: u8, image: &mut [u8], address: u8, byte: u8) -> u32 { model::write(chip, image, address, byte) }
+    #[inline(never)] fn read(&self, chip: u8, image: &[u8], address: u8) -> (u32, u8) { model::read(chip, image, address) }
+    #[inline(never)] fn reset(&self, chip: u8, image: &mut [u8]) -> u32 { model::reset(chip, image) }
+    #[inline(never)] fn identity(&self, chip: u8, image: &[u8]) -> u32 { model::identity(chip, image) }
+    #[inline(never)] fn steps_of(&self, width: u8, high: u8, low: u8) -> (u32, i16) { model::steps_of(width, high, low) }
+    #[inline(never)] fn bytes_of(&self, width: u8, steps: i16) -> (u32, u8, u8) { model::bytes_of(width, steps) }
+    #[inline(never)] fn microvolts(&self, word: u16) -> u32 { model::microvolts(word) }
+    #[inline(never)] fn sample(&self, watch: Watch, steps: i16, high: i8, hysteresis: i8) -> (u32, Watch, bool) { let (refusal, after) = model::sample(watch, steps, high, hysteresis); (refusal, after, model::output(after)) }
+    #[inline(never)] fn run(&self, watch: Watch, samples: &[i16], high: i8, hysteresis: i8) -> (Watch, bool) { let after = model::run(watch, samples, high, hysteresis); (after, model::output(after)) }
+    #[inline(never)] fn acknowledge(&self, watch: Watch) -> (Watch, bool) { let after = model::acknowledge(watch); (after, model::output(after)) }
+    #[inline(never)] fn output(&self, watch: Watch) -> bool { model::output(watch) }
+    #[inline(never)] fn judge(&self, plan: Plan) -> u32 { model::judge(plan) }
+    #[inline(never)] fn asked_of_plan(&self, plan: Plan, t: u8) -> (u32, u16) { model::asked_of_plan(plan, t) }
+    #[inline(never)] fn asked_of_image(&self, chip: u8, table: u8, image: &[u8], t: u8) -> (u32, u16) { model::asked_of_image(chip, table, image, t) }
+    #[inline(never)] fn read_record(&self, bytes: &[u8]) -> (u32, u8, u8, [u8; BODY], usize) { model::read_record(bytes) }
+    #[inline(never)] fn write_record(&self, plan: Plan, out: &mut [u8]) -> (u32, usize) { model::write_record(plan, out) }
+    #[inline(never)] fn script(&self, plan: Plan, out: &mut [u8]) -> (u32, usize) { model::script(plan, out) }
+    #[inline(never)] fn play(&self, plan: Plan, image: &mut [u8], count: usize) -> (u32, usize) { model::play(plan, image, count) }
+    #[inline(never)] fn translate(&self, input: &[u8], out: &mut [u8]) -> (u32, usize) { model::translate(input, out) }
 }

@@ -8,6 +8,7 @@ use lib.IntN.{ℤ, pos, negℤ}
 use Rattle.refusal.specs.Checks.{first, toldOr}
 use Rattle.cards.specs.declared.types.Chip.{Chip}
 use Rattle.cards.specs.declared.types.Chip.the-variants.{Nct7802y, F75373s}
+use Rattle.cards.specs.Cards.{sheetOf, shapeOf}
 use Rattle.readings.specs.Readings.{bytesOf, stepsAt}
 use Rattle.readings.specs.Contracts.{stepsChecks, bytesChecks}
 use Rattle.watch.specs.declared.Behaviour.{Behaviour}
@@ -17,18 +18,18 @@ use Rattle.curves.specs.Curves.{mean, above, below, slope, words}
 use Rattle.curves.specs.Curves as curves
 use Rattle.curves.specs.Planned.{asks}
 
--- a figure: at a width, the steps of a word, or the number of the refusal of some steps, 0 where they fit; the speed that a chip's curve asks at a
--- temperature; a fact of a new watch after a run
+-- a figure: at a width, the steps of a word, or the number of the refusal of some steps, 0 where they fit; the speed that a curve in a
+-- chip's fan table asks at a temperature; a fact of a new watch after a run
 pub data Figure : Type 0 where
   word : ℕ → ℕ → ℤ → Figure
   steps : ℕ → ℤ → ℕ → Figure
-  speed : Chip → List ℕ → List ℕ → ℕ → ℕ → Figure
+  speed : Chip → ℕ → List ℕ → List ℕ → ℕ → ℕ → Figure
   pending hot : Behaviour → List Event → Bool → Figure
 
 abbrev pub Holds : Figure → Type 0
 Holds (word w n s) = toldOr (pos 0) (stepsChecks w) (stepsAt w (bytesOf n .0) (bytesOf n .1)) ≡ (0, s)
 Holds (steps w s refusal) = first (bytesChecks w s) ≡ refusal
-Holds (speed chip settings speeds t asked) = asks chip (record { settings = settings; speeds = speeds }) t ≡ asked
+Holds (speed chip table settings speeds t asked) = asks (shapeOf chip table) (record { settings = settings; speeds = speeds }) t ≡ asked
 Holds (pending behaviour events on) = run (fresh behaviour) events .pending ≡ on
 Holds (hot behaviour events on) = run (fresh behaviour) events .hot ≡ on
 
@@ -38,11 +39,11 @@ AllHold (f ∷ fs) = Holds f × AllHold fs
 
 -- "The plan above"
 abbrev paper : ℕ → ℕ → Figure
-paper = speed Nct7802y (0x1E ∷ 0x28 ∷ 0x32 ∷ 0x37 ∷ 0x3C ∷ []) (0x8C ∷ 0xAA ∷ 0xC8 ∷ 0xE6 ∷ [])
+paper = speed Nct7802y 3 (0x1E ∷ 0x28 ∷ 0x32 ∷ 0x37 ∷ 0x3C ∷ []) (0x8C ∷ 0xAA ∷ 0xC8 ∷ 0xE6 ∷ [])
 
 -- counts 0102h, 0203h, 0304h, 0405h, 0506h
 abbrev stepped : ℕ → ℕ → Figure
-stepped = speed F75373s (60 ∷ 50 ∷ 40 ∷ 30 ∷ []) (1 ∷ 2 ∷ 2 ∷ 3 ∷ 3 ∷ 4 ∷ 4 ∷ 5 ∷ 5 ∷ 6 ∷ [])
+stepped = speed F75373s 1 (60 ∷ 50 ∷ 40 ∷ 30 ∷ []) (1 ∷ 2 ∷ 2 ∷ 3 ∷ 3 ∷ 4 ∷ 4 ∷ 5 ∷ 5 ∷ 6 ∷ [])
 
 -- "Limits 80 and 75 degrees"
 abbrev at : ℤ → Event
@@ -70,9 +71,9 @@ starred =
     ∷ paper 58 230
     ∷ paper 60 255
     -- "Unordered T1 = 50, T2 = 40 and critical 100: at 45 the duty is FL1."
-    ∷ speed Nct7802y (50 ∷ 40 ∷ 60 ∷ 70 ∷ 100 ∷ []) (11 ∷ 22 ∷ 33 ∷ 44 ∷ []) 45 11
+    ∷ speed Nct7802y 1 (50 ∷ 40 ∷ 60 ∷ 70 ∷ 100 ∷ []) (11 ∷ 22 ∷ 33 ∷ 44 ∷ []) 45 11
     -- "FL1 = 200, FL2 = 100, T1 = 0, T2 = 3, critical 100: at 1 the duty is 166."
-    ∷ speed Nct7802y (0 ∷ 3 ∷ 60 ∷ 70 ∷ 100 ∷ []) (200 ∷ 100 ∷ 33 ∷ 44 ∷ []) 1 166
+    ∷ speed Nct7802y 1 (0 ∷ 3 ∷ 60 ∷ 70 ∷ 100 ∷ []) (200 ∷ 100 ∷ 33 ∷ 44 ∷ []) 1 166
     -- "samples of 81, 78, acknowledge, 78 degrees .. in default and one-time pending is on, on, off, then on in default and off in one-time."
     ∷ pending Default (at (pos 1296) ∷ []) true
     ∷ pending Default (at (pos 1296) ∷ at (pos 1248) ∷ []) true
@@ -92,6 +93,6 @@ starred =
     ∷ []
 
 pub starred-hold : AllHold starred
-unfolding mean above below slope curves.stepRule words
+unfolding sheetOf mean above below slope curves.stepRule words
 starred-hold =
     (refl, (refl, (refl, (refl, (refl, (refl, (refl, (refl, (refl, (refl, (refl, (refl, (refl, (refl, (refl, (refl, (refl, (refl, (refl, (refl, (refl, (refl, (refl, (refl, (refl, (refl, (refl, (refl, (refl, (refl, tt))))))))))))))))))))))))))))))

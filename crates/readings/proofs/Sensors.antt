@@ -15,10 +15,10 @@ use lib.ListN.{length, getD, set, length-set}
 use lib.Pow.{pow-pos, pow-mono, high, low}
 use lib.Seq.{getD-set-same, getD-set-other}
 use mir.Facts.{fits-ofZ}
-use Rattle.cards.specs.Rows.{Reading}
+use Rattle.cards.specs.Rows.{every, Reading}
 use Rattle.cards.specs.Nct7802y as nct7802y
 use Rattle.cards.specs.Nct80 as nct80
-use Rattle.cards.proofs.Every.{every, of-every, distinct, apart}
+use Rattle.cards.proofs.Every.{of-every, distinct, apart}
 use Rattle.readings.specs.Readings.{isWidth, fits, asWord, stepsAt, bytesAt, lowBits}
 use Rattle.readings.specs.Sensors.{highAt, temperatureIn}
 use Rattle.readings.proofs.Widths.{bounds}
