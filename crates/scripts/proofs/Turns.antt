@@ -40,13 +40,11 @@ pairs-length l (suc n) =
 -- a register's position is an address
 pub write-address : (l : Load) (k : ℕ) → writeAt l k .register .position < 256
 unfolding writeAt
-write-address l k = by-side (ltb k (l .speeds))
+write-address l k = by-side (ltb k (l .speeds)) refl
   where
-    by-side : (raised : Bool)
-        → cond {A = Write} raised (record { register = registerOf l (l .settings + k); byte = l .full })
-        (record { register = registerOf l (k - l .speeds); byte = getD (l .body) (k - l .speeds) 0 }) .register .position < 256
-    by-side true = register-byte (l .chip) (l .table) (l .settings + k)
-    by-side false = register-byte (l .chip) (l .table) (k - l .speeds)
+    by-side : (raised : Bool) → ltb k (l .speeds) ≡ raised → writeAt l k .register .position < 256
+    by-side true t = rw t (register-byte (l .chip) (l .table) (l .settings + k))
+    by-side false t = rw t (register-byte (l .chip) (l .table) (k - l .speeds))
 
 -- the first k pairs stand in the buffer, which has room for all, and the rest of it is as it was
 pub record Written (l : Load) (old out : List ℕ) (at k : ℕ) : Type 0 where
