@@ -1,28 +1,31 @@
 -- Demand 1 holds: each contract says what it answers and what it leaves by its own list of checks. Demand 2 holds: the round trips are those of `readings` and `records`, and an image that is accepted has passed the check of its identity.
 -- Assumes nothing.
-use Prim.Native.Nat.{ℕ, _+_, _*_}
+use Prim.Native.Nat.{ℕ, _+_, _*_, min}
 use mathlib.Core.Path.{_≡_, refl, sym, ap, _∙_}
 use mathlib.Core.Bool.{Bool, true, false, cond, not}
 use mathlib.Core.List.{List, [], _∷_}
-use lib.ListN.{getD}
+use lib.ListN.{length, getD, take}
 use lib.IntN.{ℤ, pos}
 use borrow.Author.Tests.{not-false}
 use Rattle.refusal.specs.declared.Outcome.the-variants.{Accepted}
 use Rattle.refusal.specs.Refusals.{numberOf}
 use Rattle.refusal.specs.Checks.{first, toldOr, told}
-use Rattle.refusal.proofs.Passed.{all-passed}
+use Rattle.refusal.proofs.Passed.{told-passed, told-refused, all-passed}
 use Rattle.cards.specs.declared.types.Chip.{Chip}
 use Rattle.cards.specs.declared.types.Named.{Named}
 use Rattle.cards.specs.declared.types.Named.the-variants.{Known}
 use Rattle.cards.specs.declared.types.Fan.{Fan}
 use Rattle.cards.specs.declared.types.Layout.{Layout}
-use Rattle.cards.specs.Rows.{masksIn, requiredIn}
+use Rattle.cards.specs.Rows.{masksIn, requiredIn, column}
 use Rattle.cards.specs.Sheets.{sizesIn, missing, layout, registerIn}
-use Rattle.cards.specs.Cards.{sheetOf, chipOf, unknown, tablesOf, hasTable, tableOf, rowOf, tellsNamed, tellsFan}
+use Rattle.cards.specs.Cards.{sheetOf, chipOf, chipNumber, unknown, hasTable, rowOf, layoutOf, tellsNamed, tellsFan}
 use Rattle.cards.specs.Contracts.{Names, Lays}
 use Rattle.cards.proofs.Told.{names-told, lays-told}
 use Rattle.cards.specs.Identity.{confirmed}
-use Rattle.images.specs.Contracts.{imageChecks}
+use Rattle.images.specs.declared.Admitted.{Admitted}
+use Rattle.images.specs.declared.Admitted.the-variants as admitted
+use Rattle.images.specs.Bytes.{storedAt}
+use Rattle.images.specs.Contracts.{imageChecks, tellsAdmitted}
 use Rattle.images.proofs.Admission.{admits-told}
 use Rattle.identities.specs.Contracts.{identityChecks, Confirms}
 use Rattle.readings.specs.Readings.{asWord, voltage}
@@ -31,9 +34,14 @@ use Rattle.watch.specs.declared.Watch.{Watch}
 use Rattle.watch.specs.declared.Sampled.{Sampled}
 use Rattle.watch.specs.Alarm.{fresh, taken, isSample, acknowledged, shown, run, recorded}
 use Rattle.watch.specs.Contracts as watch
-use Rattle.curves.specs.Planned.{planned, asks, temperaturesInOrder, speedsInOrder}
+use Rattle.curves.specs.declared.Plan.{Plan}
+use Rattle.curves.specs.Planned.{planned, asks, temperaturesInOrder, speedsInOrder, fullOf}
 use Rattle.bodies.specs.Bodies.{body, decoded}
+use Rattle.plans.specs.Contracts.{planChecks, Accepts}
+use Rattle.plans.proofs.Laws.{accepted-plan, refused-plan}
 use Rattle.records.proofs.RoundTrip.{read-written, written-read}
+use Rattle.scripts.specs.Scripts.{scriptOf}
+use Rattle.scripts.specs.Plays.{played}
 use Rattle.clib.specs.Facts.{factsOf}
 use Rattle.clib.specs.Demands.{Answered, Demand1, Demand2}
 use Rattle.clib.proofs.Answered.{told-answered, left-kept, verdict-answered, count-answered, found-answered, never-refused, packed-answered, packed-verdict, packed-count, used-answered}
@@ -46,13 +54,22 @@ named-answered number r p = told-answered 0 number ((unknown number, 3) ∷ []) 
     by-test true = refl
     by-test false = refl
 
-laid-answered : (chip : Chip) (number : ℕ) (r : Fan) → Lays chip number r → Answered ((not (hasTable chip number), 4) ∷ []) (layout missing) (tellsFan r)
+laid-answered : (chip : Chip) (number : ℕ) (r : Fan) → Lays chip number r
+    → Answered ((not (hasTable chip number), 4) ∷ []) (layout [] missing) (tellsFan r)
 laid-answered chip number r p =
-    told-answered (layout missing) (layout (tableOf chip number)) ((not (hasTable chip number), 4) ∷ []) (lays-told p ∙ by-test (hasTable chip number) (layout (tableOf chip number)))
+    told-answered (layout [] missing) (layoutOf chip number) ((not (hasTable chip number), 4) ∷ [])
+    (lays-told p ∙ by-test (hasTable chip number) (layoutOf chip number))
   where
-    by-test : (b : Bool) (facts : Layout) → cond b (0, facts) (4, layout missing) ≡ toldOr (layout missing) ((not b, 4) ∷ []) facts
+    by-test : (b : Bool) (facts : Layout) → cond b (0, facts) (4, layout [] missing) ≡ toldOr (layout [] missing) ((not b, 4) ∷ []) facts
     by-test true facts = refl
     by-test false facts = refl
+
+-- a plan that is accepted tells its chip, and any other the first check that it fails
+accept-answered : (plan : Plan) (r : Admitted) → Accepts plan r → Answered (planChecks plan) 0 (tellsAdmitted r)
+accept-answered plan (admitted.Known chip) p =
+    told-answered 0 (chipNumber chip) (planChecks plan) (told-passed (planChecks plan) (chipNumber chip) (accepted-plan chip p refl))
+accept-answered plan (admitted.Refused refusal) p =
+    told-answered 0 0 (planChecks plan) (told-refused refusal (planChecks plan) 0 (refused-plan refusal p refl))
 
 -- a refused sample leaves the watch as it was
 sample-answered : (w : Watch) (steps high hysteresis : ℤ) (r : Sampled) → watch.Samples w steps high hysteresis r → Answered (watch.sampleChecks steps) w (watch.tellsSampled r)
@@ -75,9 +92,11 @@ demand-1 =
       sizes-of = λ chip. record { answer = sizesIn (sheetOf chip); kept = record { answer = refl } };
       required-of = λ chip k. record { answer = requiredIn (sheetOf chip .identity) k; kept = record { answer = refl } };
       table-of = laid-answered;
-      register-of = λ chip number k. record { answer = registerIn (tablesOf chip) number k; kept = record { answer = refl } };
+      layout-of = λ chip number. record { answer = layoutOf chip number; kept = record { answer = refl } };
+      register-of = λ chip number k. record { answer = registerIn (sheetOf chip) number k; kept = record { answer = refl } };
       admit = λ chip size r p. told-answered 0 chip _ (admits-told p);
       write = λ chip old address byte r new p. (verdict-answered r _ (p .answer), left-kept (imageChecks chip old) _ (p .answer) (p .bytes));
+      place = λ register byte old. record { answer = storedAt (register .masks) (register .position) byte old; kept = record { bytes = refl } };
       read = λ chip image address r p. told-answered 0 _ _ (p .answer);
       reset = λ chip old r new p. (verdict-answered r _ (p .answer), left-kept (imageChecks chip old) _ (p .answer) (p .bytes));
       confirm = λ chip image r p. verdict-answered r _ (p .answer);
@@ -90,11 +109,13 @@ demand-1 =
       watch-acknowledge = λ w. record { answer = acknowledged w; kept = record { answer = refl } };
       watch-output = λ w. record { answer = shown (w .behaviour) (w .hot) (w .pending); kept = record { answer = refl } };
       watch-run = λ w samples high hysteresis. record { answer = run w (recorded high hysteresis samples); kept = record { answer = refl } };
-      speed-of = λ chip plan t. record { answer = asks chip (planned chip plan) t; kept = record { answer = refl } };
-      temperatures-in-order = λ chip plan. record { answer = temperaturesInOrder chip plan; kept = record { answer = refl } };
-      speeds-in-order = λ chip plan. record { answer = speedsInOrder chip plan; kept = record { answer = refl } };
-      plan-of = λ chip table bytes. record { answer = decoded chip table bytes; kept = record { answer = refl } };
-      byte-of = λ chip plan k. record { answer = getD (body (planned chip plan)) k 0; kept = record { answer = refl } };
+      speed-of = λ shape plan t. record { answer = asks shape (planned shape plan) t; kept = record { answer = refl } };
+      temperatures-in-order = λ shape plan. record { answer = temperaturesInOrder shape plan; kept = record { answer = refl } };
+      speeds-in-order = λ shape plan. record { answer = speedsInOrder shape plan; kept = record { answer = refl } };
+      full-of = λ shape. record { answer = fullOf shape; kept = record { answer = refl } };
+      plan-of = λ shape chip table bytes. record { answer = decoded shape chip table bytes; kept = record { answer = refl } };
+      body-of = λ shape plan. record { answer = column 14 (λ k. getD (body (planned shape plan)) k 0); kept = record { answer = refl } };
+      accept = accept-answered;
       judge = λ plan r p. verdict-answered r _ (p .answer);
       asked-of-plan = λ plan t r p. told-answered 0 _ _ (p .answer);
       asked-of-image = λ chip table image t r p. told-answered 0 _ _ (p .answer);
@@ -102,6 +123,11 @@ demand-1 =
       read-record = λ bytes r p. found-answered _ _ _ r (p .answer) (p .plan);
       write-record = λ plan old r new p. count-answered r _ _ _ (p .answer) (p .bytes);
       script = λ plan old r new p. count-answered r _ _ _ (p .answer) (p .bytes);
+      make = λ chip plan count old.
+          record {
+            answer = (min count (length (scriptOf chip plan)), played chip (take count (scriptOf chip plan)) old);
+            kept = record { answer = refl; bytes = refl };
+          };
       play = λ plan old count r new p. count-answered r _ _ _ (p .answer) (p .bytes);
       translate = λ input old r new p. count-answered r _ _ _ (p .answer) (p .bytes);
       yk-write = λ chip old address byte r new p. packed-verdict (p .answer) _ r _ refl (p .kept .answer) (p .kept .bytes) (p .same);

@@ -2,7 +2,7 @@
 -- Assumes nothing.
 use Prim.Native.Nat.{ℕ, _≤_, _<_, _/_, _%_}
 use mathlib.Core.Path.{_≡_}
-use mathlib.Core.Bool.{Bool, true, not}
+use mathlib.Core.Bool.{true, not}
 use mathlib.Core.List.{List, [], _∷_, _++_}
 use lib.IntN.{ℤ, pos}
 use lib.ListN.{length, getD, take, drop}
@@ -13,14 +13,16 @@ use Rattle.refusal.specs.declared.Count.{Count}
 use Rattle.refusal.specs.declared.Count.the-variants.{Of}
 use Rattle.refusal.specs.Contracts.{Numbers}
 use Rattle.refusal.specs.Answers.{tells, tellsCount}
-use Rattle.refusal.specs.Checks.{Check, first}
+use Rattle.refusal.specs.Checks.{Check, first, roomChecks}
 use Rattle.cards.specs.declared.types.Chip.{Chip}
 use Rattle.cards.specs.declared.types.Named.{Named}
 use Rattle.cards.specs.declared.types.Named.the-variants.{Known}
 use Rattle.cards.specs.declared.types.Fan.{Fan}
+use Rattle.cards.specs.declared.types.Register.{Register}
+use Rattle.cards.specs.declared.types.Shape.{Shape}
 use Rattle.cards.specs.Sheets.{missing, layout}
 use Rattle.cards.specs.Cards.{chipOf, unknown, hasTable, tellsNamed, tellsFan}
-use Rattle.cards.specs.Contracts.{Names, Finds, PowersOn, TellsSizes, Requires, Lays, Stands}
+use Rattle.cards.specs.Contracts.{Names, Finds, PowersOn, TellsSizes, Requires, Lays, LaysOut, Stands}
 use Rattle.cards.specs.Identity.{confirmed}
 use Rattle.images.specs.declared.Admitted.{Admitted}
 use Rattle.images.specs.declared.ByteRead.{ByteRead}
@@ -63,7 +65,7 @@ pub record Answered {A : Type 0} (checks : List Check) (none : A) (told : ℕ ×
 abbrev pub Kept : ℕ → List ℕ → List ℕ → Type 0
 Kept number old new = (number ≡ 0 → ⊥) → new ≡ old
 
--- Of a call that gives no number and refuses nothing: there is an answer, whatever comes in.
+-- Of a call that gives no number and refuses nothing: there is an answer, and what it leaves in a lent buffer, whatever comes in.
 pub record Given {A : Type 0} (Promise : A → Type 0) : Type 0 where
   pub answer : A
   pub kept : Promise answer
@@ -88,12 +90,15 @@ pub record Demand1 : Type 0 where
   pub power-on-of : (chip : Chip) (position : ℕ) → Given (λ byte. PowersOn chip position byte)
   pub sizes-of : (chip : Chip) → Given (λ sizes. TellsSizes chip sizes)
   pub required-of : (chip : Chip) (k : ℕ) → Given (λ required. Requires chip k required)
-  pub table-of : (chip : Chip) (number : ℕ) (r : Fan) → Lays chip number r → Answered ((not (hasTable chip number), 4) ∷ []) (layout missing) (tellsFan r)
-  pub register-of : (chip : Chip) (number k : ℕ) → Given (λ position. Stands chip number k position)
+  pub table-of : (chip : Chip) (number : ℕ) (r : Fan) → Lays chip number r
+      → Answered ((not (hasTable chip number), 4) ∷ []) (layout [] missing) (tellsFan r)
+  pub layout-of : (chip : Chip) (number : ℕ) → Given (λ facts. LaysOut chip number facts)
+  pub register-of : (chip : Chip) (number k : ℕ) → Given (λ register. Stands chip number k register)
   -- register images
   pub admit : (chip size : ℕ) (r : Admitted) → images.Admits chip size r → Answered (images.sizeChecks chip size) 0 (images.tellsAdmitted r)
   pub write : (chip : ℕ) (old : List ℕ) (address byte : ℕ) (r : Outcome) (new : List ℕ) → images.WritesByte chip old address byte r new
       → Answered (images.imageChecks chip old) tt (verdict r) × Kept (tells r) old new
+  pub place : (register : Register) (byte : ℕ) (old : List ℕ) → Given (λ new. images.Places register byte old new)
   pub read : (chip : ℕ) (image : List ℕ) (address : ℕ) (r : ByteRead) → images.ReadsByte chip image address r
       → Answered (images.imageChecks chip image) 0 (images.tellsByte r)
   pub reset : (chip : ℕ) (old : List ℕ) (r : Outcome) (new : List ℕ) → images.Resets chip old r new
@@ -114,11 +119,13 @@ pub record Demand1 : Type 0 where
   pub watch-output : (w : Watch) → Given (λ r. watch.Shows w r)
   pub watch-run : (w : Watch) (samples : List ℤ) (high hysteresis : ℤ) → Given (λ r. watch.Runs w samples high hysteresis r)
   -- plans
-  pub speed-of : (chip : Chip) (plan : Plan) (t : ℕ) → Given (λ r. curves.Asks chip plan t r)
-  pub temperatures-in-order : (chip : Chip) (plan : Plan) → Given (λ r. curves.OrdersTemperatures chip plan r)
-  pub speeds-in-order : (chip : Chip) (plan : Plan) → Given (λ r. curves.OrdersSpeeds chip plan r)
-  pub plan-of : (chip : Chip) (table : ℕ) (bytes : List ℕ) → Given (λ plan. bodies.Decodes chip table bytes plan)
-  pub byte-of : (chip : Chip) (plan : Plan) (k : ℕ) → Given (λ byte. bodies.EncodesByte chip plan k byte)
+  pub speed-of : (shape : Shape) (plan : Plan) (t : ℕ) → Given (λ r. curves.Asks shape plan t r)
+  pub temperatures-in-order : (shape : Shape) (plan : Plan) → Given (λ r. curves.OrdersTemperatures shape plan r)
+  pub speeds-in-order : (shape : Shape) (plan : Plan) → Given (λ r. curves.OrdersSpeeds shape plan r)
+  pub full-of : (shape : Shape) → Given (λ r. curves.Raises shape r)
+  pub plan-of : (shape : Shape) (chip table : ℕ) (bytes : List ℕ) → Given (λ plan. bodies.Decodes shape chip table bytes plan)
+  pub body-of : (shape : Shape) (plan : Plan) → Given (λ bytes. bodies.EncodesBody shape plan bytes)
+  pub accept : (plan : Plan) (r : Admitted) → plans.Accepts plan r → Answered (plans.planChecks plan) 0 (images.tellsAdmitted r)
   pub judge : (plan : Plan) (r : Outcome) → plans.Judges plan r → Answered (plans.planChecks plan) tt (verdict r)
   pub asked-of-plan : (plan : Plan) (t : ℕ) (r : Asked) → plans.AsksPlan plan t r → Answered (plans.askPlanChecks plan) 0 (plans.tellsAsked r)
   pub asked-of-image : (chip table : ℕ) (image : List ℕ) (t : ℕ) (r : Asked) → plans.AsksImage chip table image t r
@@ -131,10 +138,12 @@ pub record Demand1 : Type 0 where
       → Answered (records.writeChecks plan old) 0 (tellsCount r) × Kept (tellsCount r .0) old new
   pub script : (plan : Plan) (old : List ℕ) (r : Count) (new : List ℕ) → scripts.Scripts plan old r new
       → Answered (scripts.scriptChecks plan old) 0 (tellsCount r) × Kept (tellsCount r .0) old new
+  pub make : (chip : Chip) (plan : Plan) (count : ℕ) (old : List ℕ)
+      → Given (λ (made : ℕ × List ℕ). scripts.Makes chip plan count old (made .0) (made .1))
   pub play : (plan : Plan) (old : List ℕ) (count : ℕ) (r : Count) (new : List ℕ) → plays.Plays plan old count r new
       → Answered (plays.playChecks plan old) 0 (tellsCount r) × Kept (tellsCount r .0) old new
   pub translate : (input old : List ℕ) (r : Count) (new : List ℕ) → translation.Translates input old r new
-      → Answered (records.roomChecks (length (textOf input)) old) 0 (tellsCount r) × Kept (tellsCount r .0) old new
+      → Answered (roomChecks (length (textOf input)) old) 0 (tellsCount r) × Kept (tellsCount r .0) old new
   -- the C boundary
   pub yk-write : (chip : ℕ) (old : List ℕ) (address byte r : ℕ) (new : List ℕ) → YkWrite chip old address byte r new
       → Answered (images.imageChecks chip old) 0 (unpacked r) × Kept (unpacked r .0) old new
@@ -162,7 +171,7 @@ pub record Demand1 : Type 0 where
   pub yk-play : (chip table : ℕ) (body old : List ℕ) (count r : ℕ) (new : List ℕ) → YkPlay chip table body old count r new
       → Answered (playBodyChecks chip table body old) 0 (unpacked r) × Kept (unpacked r .0) old new
   pub yk-translate : (input old : List ℕ) (r : ℕ) (new : List ℕ) → YkTranslate input old r new
-      → Answered (records.roomChecks (length (textOf input)) old) 0 (unpacked r) × Kept (unpacked r .0) old new
+      → Answered (roomChecks (length (textOf input)) old) 0 (unpacked r) × Kept (unpacked r .0) old new
 
 pub record Demand2 : Type 0 where
   -- "Temperatures go from bytes to steps and back, ignored bits aside": the bytes of n steps are counted as n ..
