@@ -1,6 +1,6 @@
 -- A chip number names one chip: what a number that names a chip is, and that a number which is not refused names one.
 -- Assumes nothing.
-use Prim.Native.Nat.{ℕ}
+use Prim.Native.Nat.{ℕ, _<_}
 use native.Mathlib.Omega.{arith}
 use mathlib.Core.Path.{_≡_, refl, ap, _∙_}
 use mathlib.Core.Bool.{Bool, true, false, cond, true≢false}
@@ -11,6 +11,7 @@ use Rattle.cards.specs.declared.types.Chip.{Chip}
 use Rattle.cards.specs.declared.types.Named.{Named}
 use Rattle.cards.specs.declared.types.Named.the-variants.{Known, Unknown}
 use Rattle.cards.specs.Cards.{chips, chipAmong, chipOf, chipNumber, whenKnown, unknown}
+use Rattle.cards.proofs.Sound.{sound-sheet}
 
 among : (cs : List Chip) (number : ℕ) (chip : Chip) → chipAmong cs number ≡ Known chip → number ≡ chipNumber chip
 among [] number chip e = let z : _≡_ {A = ℕ} 0 1 = cc in absurd (omega arith)
@@ -23,6 +24,10 @@ among (c ∷ cs) number chip e = by-test (eqb number (chipNumber c)) refl e (λ 
 
 pub chip-number : (number : ℕ) (chip : Chip) → chipOf number ≡ Known chip → number ≡ chipNumber chip
 chip-number number chip e = among chips number chip e
+
+-- of one digit
+pub chip-digit : (chip : Chip) → chipNumber chip < 10
+chip-digit chip = sound-sheet chip .number
 
 -- the chip that a number names
 pub record Names-a-chip (number : ℕ) : Type 0 where

@@ -5,7 +5,7 @@ use native.Mathlib.Omega.{arith}
 use mathlib.Core.Path.{refl}
 use mathlib.Core.Bool.{Bool, true, false, So, not, _&&_}
 use mathlib.Core.List.{List, [], _∷_}
-use borrow.Author.Tests.{leb-true}
+use borrow.Author.Tests.{leb-true, ltb-true}
 use lib.Bits.{bitAnd}
 use lib.Dec.{eqb, leb, ltb}
 use lib.ListN.{length, getD}
@@ -99,6 +99,8 @@ tests sheet =
     ∷ every (separate sheet) (sheet .tables)
     ∷ every sized (sheet .tables)
     ∷ every (alike (sheet .card) (tableIn (sheet .tables) 1)) (sheet .tables)
+    ∷ ltb (sheet .number) 10
+    ∷ ltb (length (sheet .tables)) 100
     ∷ []
 
 unfoldable pub sound : Sheet → Bool
@@ -117,9 +119,12 @@ pub record Sound (sheet : Sheet) : Type 0 where
   pub sizes : So (every sized (sheet .tables))
   -- what each chip's module counts on, which has one layout for its tables
   pub rows : So (every (alike (sheet .card) (tableIn (sheet .tables) 1)) (sheet .tables))
+  -- what a line of a text has room for: one digit of the chip's number, and two of the table's
+  pub number : sheet .number < 10
+  pub numbers : length (sheet .tables) < 100
 
 module _ (sheet : Sheet) (t : So (sound sheet)) where
-  part : (k : ℕ) → k < 9 → So (getD (tests sheet) k true)
+  part : (k : ℕ) → k < 11 → So (getD (tests sheet) k true)
   unfolding sound
   part k h = of-every (λ test. test) (tests sheet) true t k h
 
@@ -135,6 +140,8 @@ module _ (sheet : Sheet) (t : So (sound sheet)) where
         tables = part 6 (omega arith);
         sizes = part 7 (omega arith);
         rows = part 8 (omega arith);
+        number = ltb-true (sheet .number) 10 (part 9 (omega arith));
+        numbers = ltb-true (length (sheet .tables)) 100 (part 10 (omega arith));
       }
 
 -- the only law that goes by the chip

@@ -203,6 +203,10 @@ module _ (chip : Chip) (number : ℕ) (has : So (hasTable chip number)) where
   pub table-number : (1 ≤ number) × (number ≤ length (tablesOf chip))
   table-number = numbered (tablesOf chip) number has
 
+  -- of at most two digits
+  pub table-digits : number < 100
+  table-digits = omega (arith, table-number .1, sound-sheet chip .numbers)
+
   -- a table is as long as its curve
   pub table-sized : (length (tableOf chip number .settings) ≡ room (shapeOf chip number) .0)
       × (length (tableOf chip number .speeds) ≡ room (shapeOf chip number) .1)
