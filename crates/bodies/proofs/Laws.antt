@@ -1,23 +1,24 @@
 -- A plan that comes out of a body names its chip and its table and has its arrays' lengths; a body and the plan in its bytes undo each other.
 -- Assumes nothing.
-use Prim.Native.Nat.{ℕ, _+_, _<_, _^_}
+use Prim.Native.Nat.{ℕ, _+_, _≤_, _<_}
 use native.Mathlib.Omega.{arith}
 use mathlib.Core.Path.{_≡_, refl, sym, ap, ap₂, _∙_}
 use mathlib.Core.List.{List, [], _∷_, _++_}
-use lib.ListN.{length, getD, length-append}
+use lib.ListN.{length, getD, take, length-append}
+use lib.Seq.{length-take-le, getD-take, ext-getD}
 use Rattle.cards.specs.declared.types.Shape.{Shape}
 use Rattle.cards.specs.declared.types.Shape.the-variants.{Slope, Steps}
-use Rattle.cards.specs.Rows.{from}
+use Rattle.cards.specs.Rows.{from, column}
 use Rattle.cards.specs.Sheets.{room}
+use Rattle.cards.proofs.Columns.{column-length, column-at}
 use Rattle.curves.specs.declared.SlopeValues.{SlopeValues}
 use Rattle.curves.specs.declared.StepValues.{StepValues}
 use Rattle.curves.specs.declared.Plan.{Plan}
 use Rattle.curves.specs.Curves.{halves, words}
-use Rattle.curves.specs.Planned.{planned, valuesAt}
-use Rattle.curves.specs.Values.{noSlope, noSteps, Within, Sized}
+use Rattle.curves.specs.Planned.{planned, valuesAt, temperaturesInOrder, speedsInOrder}
+use Rattle.curves.specs.Values.{noSlope, noSteps, Sized}
 use Rattle.curves.proofs.StepLaws.{halves-length, words-halves, halves-words}
-use Rattle.curves.proofs.Registers.{spelled}
-use Rattle.curves.proofs.Owned.{all-at}
+use Rattle.curves.proofs.Registers.{spelled, in-a-row}
 use Rattle.curves.proofs.Filled.{planned-sized}
 use Rattle.bodies.specs.Bodies.{body, slopeIn, stepsIn, decoded, ownOf}
 
@@ -41,6 +42,16 @@ body-length shape plan sized =
     let curve = planned shape plan in
     let filled = planned-sized shape plan sized in
     length-append (curve .settings) (curve .speeds) ∙ ap₂ (λ (m n : ℕ). m + n) (filled .0) (filled .1)
+
+-- values that are laid out stand in front of their column
+pub column-begins : (values : List ℕ) (n : ℕ) → length values ≤ n → take (length values) (column n (λ k. getD values k 0)) ≡ values
+column-begins values n h =
+    let bytes = column n (λ k. getD values k 0) in
+    let long = length-take-le (length values) bytes (omega (arith, column-length n (λ k. getD values k 0))) in
+    ext-getD 0 (take (length values) bytes) values long
+    (λ k l.
+    let within : k < length values = omega (arith, long) in
+    getD-take (length values) bytes k 0 within ∙ column-at n (λ j. getD values j 0) k (omega arith))
 
 -- values that are laid out come back, whatever stands behind them
 pub slope-back : (values : SlopeValues) (rest : List ℕ) → length (values .temperatures) ≡ 4 → length (values .duties) ≡ 4
@@ -71,12 +82,33 @@ body-back Steps plan rest sized =
     let values = steps-back (plan .steps) rest (sized .bounds) (sized .counts) in
     λ i. record { chip = plan .chip; table = plan .table; slope = noSlope; steps = values i }
 
--- a whole body is the body of the plan in it
-pub encode-decode : (shape : Shape) (chip table : ℕ) (bytes : List ℕ) → length bytes ≡ room shape .0 + room shape .1 → Within 8 bytes
-    → body (planned shape (decoded shape chip table bytes)) ≡ bytes
-encode-decode (Slope full) chip table bytes h within = spelled bytes 9 h
-encode-decode Steps chip table bytes h within =
-    let byte : (k : ℕ) → getD bytes k 0 < 256 = all-at (λ b. b < 2 ^ 8) bytes within (omega arith) in
+-- a whole body is the body of the plan in it, whatever stands behind it
+pub encode-decode : (shape : Shape) (chip table : ℕ) (bytes : List ℕ) → room shape .0 + room shape .1 ≤ length bytes
+    → ((k : ℕ) → getD bytes k 0 < 256)
+    → body (planned shape (decoded shape chip table bytes)) ≡ take (room shape .0 + room shape .1) bytes
+encode-decode (Slope full) chip table bytes h byte = in-a-row bytes 0 9 h
+encode-decode Steps chip table bytes h byte =
     ap (λ (l : List ℕ). valuesAt bytes (from 0 4) ++ l)
     (halves-words (valuesAt bytes (from 4 10)) (byte 5, (byte 7, (byte 9, (byte 11, (byte 13, tt))))))
-    ∙ spelled bytes 14 h
+    ∙ in-a-row bytes 0 14 h
+
+-- what comes back of a plan names its chip and its table, has its curve and is in order as it is
+pub own-chip : (shape : Shape) (plan : Plan) → ownOf shape plan .chip ≡ plan .chip
+own-chip (Slope full) plan = refl
+own-chip Steps plan = refl
+
+pub own-table : (shape : Shape) (plan : Plan) → ownOf shape plan .table ≡ plan .table
+own-table (Slope full) plan = refl
+own-table Steps plan = refl
+
+pub own-curve : (shape : Shape) (plan : Plan) → planned shape (ownOf shape plan) ≡ planned shape plan
+own-curve (Slope full) plan = refl
+own-curve Steps plan = refl
+
+pub own-temperatures : (shape : Shape) (plan : Plan) → temperaturesInOrder shape (ownOf shape plan) ≡ temperaturesInOrder shape plan
+own-temperatures (Slope full) plan = refl
+own-temperatures Steps plan = refl
+
+pub own-speeds : (shape : Shape) (plan : Plan) → speedsInOrder shape (ownOf shape plan) ≡ speedsInOrder shape plan
+own-speeds (Slope full) plan = refl
+own-speeds Steps plan = refl

@@ -6,27 +6,37 @@ use mathlib.Core.Path.{_≡_, refl, sym, ap, _∙_}
 use mathlib.Core.Bool.{Bool, true, false, not, _&&_, _||_}
 use mathlib.Core.List.{List, [], _++_}
 use borrow.Author.Tests.{lt-ltb, le-ltb, ltb-false, not-false}
-use lib.Dec.{eqb}
+use lib.Dec.{eqb, ltb}
 use lib.ListN.{length, getD, take, drop}
-use lib.Seq.{take-all, paste}
+use lib.Seq.{paste}
 use Rattle.refusal.specs.declared.Refusal.{Refusal}
 use Rattle.refusal.specs.Refusals.{numberOf}
-use Rattle.refusal.specs.Checks.{Check, first, told, roomChecks}
+use Rattle.refusal.specs.Checks.{Check, first, told, left, roomChecks}
 use Rattle.refusal.proofs.Numbers.{numberOf-positive}
-use Rattle.refusal.proofs.Passed.{all-passed, first-passed, first-refused, when-passed, when-refused, told-passed, told-refused}
+use Rattle.refusal.proofs.Passed.{
+  all-passed,
+  first-passed,
+  first-refused,
+  when-passed,
+  when-refused,
+  told-passed,
+  told-refused,
+  same-told,
+  same-left,
+}
 use Rattle.refusal.specs.declared.Count.{Count}
 use Rattle.refusal.specs.declared.Count.the-variants as counted
 use Rattle.refusal.specs.Answers.{tellsCount}
 use Rattle.cards.specs.declared.types.Chip.{Chip}
 use Rattle.cards.specs.declared.types.Named.the-variants.{Known}
-use Rattle.cards.specs.Cards.{chipOf, whenKnown, hasTable}
+use Rattle.cards.specs.Cards.{chipOf, whenKnown, hasTable, shapeOf}
 use Rattle.cards.proofs.Numbers.{chip-known}
 use Rattle.curves.specs.declared.Plan.{Plan}
 use Rattle.bodies.specs.Bodies.{decoded}
 use Rattle.plans.specs.Contracts.{askPlanChecks, orderChecks, planChecks}
 use Rattle.records.specs.declared.Found.{Found}
 use Rattle.records.specs.Records.{bodyLength, recordLength, recordOf, encoded, chipIn, tableIn, bodyIn, noPlan, planOf, planIn}
-use Rattle.records.specs.Parts.{Refuses}
+use Rattle.records.specs.Parts.{Refuses, Puts}
 use Rattle.records.specs.Contracts.{wrongMark, bodyChecks, bodyPlanChecks, recordChecks, writeChecks, TakesBody, ReadsRecord, WritesRecord}
 use Rattle.bodies.proofs.Laws.{decoded-chip, decoded-table}
 
@@ -56,21 +66,39 @@ whole-body number table bytes h =
       long = ltb-false (length bytes) (bodyLength (known .chip)) (rw (known .named) at (p .1 .1 .0));
     }
 
--- no check refuses it, and what is left to check is what its plan is judged by, whatever is checked behind it
-pub whole-passed : (number table : ℕ) (bytes : List ℕ) → Whole number table bytes → first (bodyChecks number table bytes) ≡ 0
-whole-passed number table bytes W = rw (W .named, W .has, le-ltb (length bytes) (bodyLength (W .chip)) (W .long))
+module _ (number table : ℕ) (bytes : List ℕ) (W : Whole number table bytes) where
+  -- the plan in it
+  abbrev pub bodyPlan : Plan
+  bodyPlan = decoded (shapeOf (W .chip) table) number table bytes
 
-pub whole-asked : (number table : ℕ) (bytes : List ℕ) (W : Whole number table bytes)
-    → first (askPlanChecks (decoded (W .chip) table bytes)) ≡ first (bodyChecks number table bytes)
-whole-asked number table bytes W =
-    rw
-    (W .named, decoded-chip (W .chip) table bytes, decoded-table (W .chip) table bytes, W .has, le-ltb (length bytes) (bodyLength (W .chip)) (W .long))
+  long-enough : ltb (length bytes) (bodyLength (W .chip)) ≡ false
+  long-enough = le-ltb (length bytes) (bodyLength (W .chip)) (W .long)
 
-pub whole-judged : (number table : ℕ) (bytes : List ℕ) (W : Whole number table bytes) (more : List Check)
-    → first (planChecks (decoded (W .chip) table bytes) ++ more) ≡ first (bodyPlanChecks number table bytes ++ more)
-whole-judged number table bytes W more =
-    rw
-    (W .named, decoded-chip (W .chip) table bytes, decoded-table (W .chip) table bytes, W .has, le-ltb (length bytes) (bodyLength (W .chip)) (W .long))
+  same-chip : chipOf (bodyPlan .chip) ≡ Known (W .chip)
+  same-chip = ap chipOf (decoded-chip (shapeOf (W .chip) table) number table bytes) ∙ W .named
+
+  same-table : bodyPlan .table ≡ table
+  same-table = decoded-table (shapeOf (W .chip) table) number table bytes
+
+  -- no check refuses it, and what is left to check is what its plan is judged by, whatever is checked behind it
+  pub whole-passed : first (bodyChecks number table bytes) ≡ 0
+  whole-passed = rw (W .named, W .has, long-enough)
+
+  pub whole-asked : first (askPlanChecks bodyPlan) ≡ first (bodyChecks number table bytes)
+  whole-asked = rw (W .named, same-chip, same-table, W .has, long-enough)
+
+  pub whole-judged : (more : List Check) → first (planChecks bodyPlan ++ more) ≡ first (bodyPlanChecks number table bytes ++ more)
+  whole-judged more = rw (W .named, same-chip, same-table, W .has, long-enough)
+
+  pub plan-accepted : (n : ℕ) (plan : Plan) → n ≡ bodyLength (W .chip) → plan ≡ bodyPlan
+      → TakesBody number table bytes (record { answer = counted.Of n; plan = plan })
+  plan-accepted n plan e d =
+      let used : n ≡ whenKnown (chipOf number) bodyLength 0 = rw (W .named) e in
+      let read : plan ≡ planOf number table bytes = rw (W .named) d in
+      record {
+        answer = told-passed (bodyChecks number table bytes) n whole-passed ∙ ap (told (bodyChecks number table bytes)) used;
+        plan = read ∙ when-passed (planOf number table bytes) noPlan whole-passed;
+      }
 
 pub plan-refused : (number table : ℕ) (bytes : List ℕ) {refusal : Refusal} {r : Found} → Refuses refusal r
     → numberOf refusal ≡ first (bodyChecks number table bytes) → TakesBody number table bytes r
@@ -80,22 +108,11 @@ plan-refused number table bytes {refusal} R e =
       plan = R .plan ∙ when-refused refusal (planOf number table bytes) noPlan e;
     }
 
-pub plan-accepted : (number table : ℕ) (bytes : List ℕ) (n : ℕ) (plan : Plan) (W : Whole number table bytes) → n ≡ bodyLength (W .chip)
-    → plan ≡ decoded (W .chip) table bytes → TakesBody number table bytes (record { answer = counted.Of n; plan = plan })
-plan-accepted number table bytes n plan W e d =
-    let none = whole-passed number table bytes W in
-    let used : n ≡ whenKnown (chipOf number) bodyLength 0 = rw (W .named) e in
-    let read : plan ≡ planOf number table bytes = rw (W .named) d in
-    record {
-      answer = told-passed (bodyChecks number table bytes) n none ∙ ap (told (bodyChecks number table bytes)) used;
-      plan = read ∙ when-passed (planOf number table bytes) noPlan none;
-    }
-
 -- what an accepted body says: it lacks nothing, and the plan is the one in it
 pub record Taken (number table : ℕ) (bytes : List ℕ) (n : ℕ) (plan : Plan) : Type 0 where
   pub whole : Whole number table bytes
   pub used : n ≡ bodyLength (whole .chip)
-  pub plan-in : plan ≡ decoded (whole .chip) table bytes
+  pub plan-in : plan ≡ bodyPlan number table bytes whole
 
 pub plan-taken : (number table : ℕ) (bytes : List ℕ) (n : ℕ) (r : Found) → TakesBody number table bytes r → r .answer ≡ counted.Of n
     → Taken number table bytes n (r .plan)
@@ -151,13 +168,15 @@ pub record Complete (bytes : List ℕ) : Type 0 where
   pub marked : Marked bytes
   pub whole : Whole (chipIn bytes) (tableIn bytes) (bodyIn bytes)
 
-pub complete-judged : (bytes : List ℕ) (C : Complete bytes)
-    → first (planChecks (decoded (C .whole .chip) (tableIn bytes) (bodyIn bytes))) ≡ first (recordChecks bytes)
+abbrev pub recordPlan : (bytes : List ℕ) → Complete bytes → Plan
+recordPlan bytes C = bodyPlan (chipIn bytes) (tableIn bytes) (bodyIn bytes) (C .whole)
+
+pub complete-judged : (bytes : List ℕ) (C : Complete bytes) → first (planChecks (recordPlan bytes C)) ≡ first (recordChecks bytes)
 complete-judged bytes C =
     whole-judged (chipIn bytes) (tableIn bytes) (bodyIn bytes) (C .whole) [] ∙ sym (marked-checks bytes (C .marked))
 
 pub record-accepted : (bytes : List ℕ) (n : ℕ) (plan : Plan) (C : Complete bytes) → first (recordChecks bytes) ≡ 0
-    → n ≡ recordLength (C .whole .chip) → plan ≡ decoded (C .whole .chip) (tableIn bytes) (bodyIn bytes)
+    → n ≡ recordLength (C .whole .chip) → plan ≡ recordPlan bytes C
     → ReadsRecord bytes (record { answer = counted.Of n; plan = plan })
 record-accepted bytes n plan C none e d =
     let used : n ≡ whenKnown (chipOf (chipIn bytes)) recordLength 0 = rw (C .whole .named) e in
@@ -177,27 +196,43 @@ write-refused plan old refusal e =
       bytes = when-refused refusal _ old f;
     }
 
--- an accepted plan is refused only for want of room
-module _ (chip : Chip) (plan : Plan) (old : List ℕ) (named : chipOf (plan .chip) ≡ Known chip) (judged : first (planChecks plan) ≡ 0) where
-  room : first (writeChecks plan old) ≡ first (roomChecks (length (recordOf chip plan)) old)
-  room = first-passed (planChecks plan) (roomChecks (length (encoded plan)) old) refl judged ∙ (rw named)
-
-  pub write-short : length old < length (recordOf chip plan) → WritesRecord plan old (counted.Refused Refusal.OutputTooShort) old
-  write-short h =
-      let f : 9 ≡ first (writeChecks plan old) = sym (room ∙ (rw (lt-ltb (length old) (length (recordOf chip plan)) h))) in
+-- a record is put where there is room, from bytes that begin with it
+module _ (chip : Chip) (plan : Plan) (old : List ℕ) where
+  pub put-short : length old < length (recordOf chip plan) → Puts chip plan old (counted.Refused Refusal.OutputTooShort) old
+  put-short h =
+      let f : 9 ≡ first (roomChecks (length (recordOf chip plan)) old) = rw (lt-ltb (length old) (length (recordOf chip plan)) h) in
       record {
-        answer = told-refused Refusal.OutputTooShort (writeChecks plan old) _ f;
+        answer = told-refused Refusal.OutputTooShort (roomChecks (length (recordOf chip plan)) old) _ f;
         bytes = when-refused Refusal.OutputTooShort _ old f;
       }
 
-  pub write-whole : (n : ℕ) (new : List ℕ) → n ≡ length (recordOf chip plan) → n ≤ length old → new ≡ paste old 0 (recordOf chip plan) n
-      → WritesRecord plan old (counted.Of n) new
-  write-whole n new e h copied =
-      let f : first (writeChecks plan old) ≡ 0 = room ∙ (rw (le-ltb (length old) (length (recordOf chip plan)) (omega arith))) in
-      let whole : take n (recordOf chip plan) ≡ encoded plan = take-all n (recordOf chip plan) (omega arith) ∙ (rw named) in
-      let long : n ≡ length (encoded plan) = rw named e in
-      let rest : 0 + n ≡ length (encoded plan) = omega arith in
+  pub put-whole : (n : ℕ) (bytes new : List ℕ) → n ≡ length (recordOf chip plan) → take n bytes ≡ recordOf chip plan → n ≤ length old
+      → new ≡ paste old 0 bytes n → Puts chip plan old (counted.Of n) new
+  put-whole n bytes new e front h copied =
+      let checks = roomChecks (length (recordOf chip plan)) old in
+      let f : first checks ≡ 0 = rw (le-ltb (length old) (length (recordOf chip plan)) (omega arith)) in
+      let rest : 0 + n ≡ length (recordOf chip plan) = omega arith in
       record {
-        answer = told-passed (writeChecks plan old) n f ∙ ap (told (writeChecks plan old)) long;
-        bytes = copied ∙ (λ i. whole i ++ drop (rest i) old) ∙ when-passed _ old f;
+        answer = told-passed checks n f ∙ ap (told checks) e;
+        bytes = copied ∙ (λ i. front i ++ drop (rest i) old) ∙ when-passed _ old f;
+      }
+
+  -- an accepted plan is refused only for want of room
+  pub write-put : {r : Count} {new : List ℕ} → chipOf (plan .chip) ≡ Known chip → first (planChecks plan) ≡ 0 → Puts chip plan old r new
+      → WritesRecord plan old r new
+  write-put named judged p =
+      let checks = roomChecks (length (recordOf chip plan)) old in
+      let whole : recordOf chip plan ≡ encoded plan = rw named in
+      let alike : first checks ≡ first (writeChecks plan old) =
+      ap (λ (l : List ℕ). first (roomChecks (length l) old)) whole
+      ∙ sym (first-passed (planChecks plan) (roomChecks (length (encoded plan)) old) refl judged) in
+      record {
+        answer =
+            p .answer
+            ∙ same-told 0 (length (recordOf chip plan)) checks (writeChecks plan old) alike
+            ∙ ap (λ (l : List ℕ). told (writeChecks plan old) (length l)) whole;
+        bytes =
+            p .bytes
+            ∙ same-left (recordOf chip plan ++ drop (length (recordOf chip plan)) old) old checks (writeChecks plan old) alike
+            ∙ ap (λ (l : List ℕ). left (writeChecks plan old) (l ++ drop (length l) old) old) whole;
       }

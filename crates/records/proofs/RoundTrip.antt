@@ -13,24 +13,24 @@ use Rattle.refusal.specs.Checks.{first, roomChecks}
 use Rattle.refusal.proofs.Passed.{all-passed, first-passed, first-front, when-passed, told-passed}
 use Rattle.refusal.specs.declared.Count.{Count}
 use Rattle.refusal.specs.declared.Count.the-variants as counted
-use Rattle.refusal.specs.Answers.{tellsCount}
 use Rattle.refusal.proofs.Answers.{tellsCount-injective}
 use Rattle.cards.specs.declared.types.Chip.{Chip}
 use Rattle.cards.specs.declared.types.Named.the-variants.{Known}
-use Rattle.cards.specs.Cards.{chipOf, whenKnown}
-use Rattle.cards.proofs.Numbers.{chip-number, chip-known}
+use Rattle.cards.specs.Cards.{chipOf, whenKnown, shapeOf}
+use Rattle.cards.proofs.Numbers.{chip-known}
 use Rattle.curves.specs.declared.Plan.{Plan}
 use Rattle.curves.specs.Planned.{planned}
-use Rattle.bodies.specs.Bodies.{body, decoded}
+use Rattle.bodies.specs.Bodies.{body, ownOf}
+use Rattle.plans.specs.Plans.{plannedFor}
 use Rattle.plans.specs.Contracts.{orderChecks, planChecks}
-use Rattle.plans.proofs.Laws.{accepted, accepted-known}
+use Rattle.plans.proofs.Laws.{passed-plan, accepted-known}
 use Rattle.records.specs.declared.Found.{Found}
 use Rattle.curves.specs.Values.{Sized}
-use Rattle.records.specs.Records.{bodyLength, recordLength, recordOf, encoded, chipIn, tableIn, bodyIn, noPlan, planIn, ownOf, own}
+use Rattle.records.specs.Records.{bodyLength, recordLength, recordOf, encoded, chipIn, tableIn, bodyIn, noPlan, planIn, own}
 use Rattle.records.specs.Contracts.{bodyChecks, bodyPlanChecks, recordChecks, writeChecks, ReadsRecord, WritesRecord}
-use Rattle.bodies.proofs.Laws.{decoded-chip, decoded-table}
-use Rattle.records.proofs.Answers.{told-of, whole-body, Complete, complete-judged}
-use Rattle.records.proofs.Encoding.{body-of-plan, record-of-plan, decode-encode, own-judged, encode-decode}
+use Rattle.bodies.proofs.Laws.{decoded-chip, decoded-table, body-back, encode-decode}
+use Rattle.records.proofs.Answers.{told-of, whole-body, Complete, recordPlan, complete-judged}
+use Rattle.records.proofs.Encoding.{body-of-shape, body-of-plan, record-of-plan, own-judged}
 
 -- a record that is accepted is complete
 pub whole-record : (bytes : List ℕ) → first (recordChecks bytes) ≡ 0 → Complete bytes
@@ -55,20 +55,27 @@ header-split (a ∷ (b ∷ (c ∷ (d ∷ l)))) m h =
 
 -- the record of the plan in a complete record is the front of its bytes
 complete-encoded : (bytes : List ℕ) (C : Complete bytes) → ((k : ℕ) → getD bytes k 0 < 256)
-    → encoded (decoded (C .whole .chip) (tableIn bytes) (bodyIn bytes)) ≡ take (recordLength (C .whole .chip)) bytes
+    → encoded (recordPlan bytes C) ≡ take (recordLength (C .whole .chip)) bytes
 complete-encoded bytes C small =
     let chip = C .whole .chip in
-    let D = decoded chip (tableIn bytes) (bodyIn bytes) in
+    let shape = shapeOf chip (tableIn bytes) in
+    let plan = recordPlan bytes C in
     let marks = and-eq-true-iff (eqb (getD bytes 0 0) 0x43) (eqb (getD bytes 1 0) 0x50) .0 (not-false _ (C .marked .mark)) in
-    let number = chip-number (D .chip) chip (decoded-chip chip (tableIn bytes) (bodyIn bytes)) ∙ sym (chip-number (chipIn bytes) chip (C .whole .named)) in
+    let number = decoded-chip shape (chipIn bytes) (tableIn bytes) (bodyIn bytes) in
+    let table = decoded-table shape (chipIn bytes) (tableIn bytes) (bodyIn bytes) in
     let bytes-small : (k : ℕ) → getD (bodyIn bytes) k 0 < 256 = λ k. rw (getD-drop 4 bytes k 0) (small (4 + k)) in
-    let whole : encoded D ≡ recordOf chip D = rw (decoded-chip chip (tableIn bytes) (bodyIn bytes)) in
+    let size = body-of-shape chip (tableIn bytes) (C .whole .has) in
+    let laid : body (plannedFor chip plan) ≡ take (bodyLength chip) (bodyIn bytes) =
+    ap (λ (t : ℕ). body (planned (shapeOf chip t) plan)) table
+    ∙ encode-decode shape (chipIn bytes) (tableIn bytes) (bodyIn bytes) (omega (arith, size, C .whole .long)) bytes-small
+    ∙ ap (λ (n : ℕ). take n (bodyIn bytes)) size in
+    let whole : encoded plan ≡ recordOf chip plan = rw (number, C .whole .named) in
     whole
     ∙ (λ i. sym (eqb-true (getD bytes 0 0) 0x43 (marks .0)) i
     ∷ (sym (eqb-true (getD bytes 1 0) 0x50 (marks .1)) i
     ∷ (number i
-    ∷ (decoded-table chip (tableIn bytes) (bodyIn bytes) i
-    ∷ encode-decode chip (tableIn bytes) (bodyIn bytes) bytes-small (C .whole .long) i))))
+    ∷ (table i
+    ∷ laid i))))
     ∙ header-split bytes (bodyLength chip) (C .marked .long)
 
 -- what an accepted read says: whose record it is, its length, and the record of the plan
@@ -84,7 +91,7 @@ read-accepts bytes n q small R e =
     let C = whole-record bytes (t .0) in
     let chip = C .whole .chip in
     let length-is : n ≡ recordLength chip = rw (C .whole .named) at (t .1) in
-    let plan-is : q .plan ≡ decoded chip (tableIn bytes) (bodyIn bytes) =
+    let plan-is : q .plan ≡ recordPlan bytes C =
     rw (C .whole .named) at (R .plan ∙ sym (when-passed (planIn bytes) noPlan (t .0))) in
     record {
       within = omega (arith, length-is, C .whole .long, C .marked .long, length-drop 4 bytes);
@@ -122,23 +129,26 @@ read-written bytes n q old r new small R e W room =
 -- a plan's record, with whatever bytes stand behind it
 record-read : (chip : Chip) (plan : Plan) (rest : List ℕ) (q : Found) → Sized plan → chipOf (plan .chip) ≡ Known chip
     → first (planChecks plan) ≡ 0 → ReadsRecord (recordOf chip plan ++ rest) q
-    → (q .answer ≡ counted.Of (length (recordOf chip plan))) × (q .plan ≡ ownOf chip plan)
+    → (q .answer ≡ counted.Of (length (recordOf chip plan))) × (q .plan ≡ ownOf (shapeOf chip (plan .table)) plan)
 record-read chip plan rest q S e accepts R =
     let bytes = recordOf chip plan ++ rest in
+    let has = passed-plan chip plan e accepts .has in
     let long : bodyLength chip ≤ length (bodyIn bytes) =
-    omega (arith, body-of-plan chip plan S, length-append (body (planned chip plan)) rest) in
+    omega (arith, body-of-plan chip plan S has, length-append (body (plannedFor chip plan)) rest) in
     let C : Complete bytes =
     record {
       marked = record { long = omega arith; mark = refl };
-      whole = record { chip = chip; named = e; has = accepted chip plan e accepts .has; long = long };
+      whole = record { chip = chip; named = e; has = has; long = long };
     } in
-    let back = decode-encode chip plan rest S e in
+    let back = body-back (shapeOf chip (plan .table)) plan rest S in
     let none : first (recordChecks bytes) ≡ 0 =
     sym (complete-judged bytes C) ∙ ap (λ (p : Plan). first (planChecks p)) back ∙ own-judged chip plan e ∙ accepts in
-    let used-bytes : whenKnown (chipOf (plan .chip)) recordLength 0 ≡ length (recordOf chip plan) = rw e (sym (record-of-plan chip plan S)) in
-    let plan-in : planIn bytes ≡ ownOf chip plan = rw e back in (
+    let used-bytes : whenKnown (chipOf (plan .chip)) recordLength 0 ≡ length (recordOf chip plan) = rw e (sym (record-of-plan chip plan S has)) in
+    let plan-in : planIn bytes ≡ ownOf (shapeOf chip (plan .table)) plan = rw e back in (
       tellsCount-injective (q .answer) (counted.Of (length (recordOf chip plan)))
-          (R .answer ∙ sym (told-passed (recordChecks bytes) (whenKnown (chipOf (plan .chip)) recordLength 0) none) ∙ ap (λ (k : ℕ). (0, k)) used-bytes),
+          (R .answer
+          ∙ sym (told-passed (recordChecks bytes) (whenKnown (chipOf (plan .chip)) recordLength 0) none)
+          ∙ ap (λ (k : ℕ). (0, k)) used-bytes),
       R .plan ∙ sym (when-passed (planIn bytes) noPlan none) ∙ plan-in,
     )
 

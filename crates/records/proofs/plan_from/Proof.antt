@@ -1,8 +1,8 @@
 -- `records::plan_from` meets its contract: each answer knows how the tests before it ended.
 -- Assumes nothing.
-use Prim.Native.Nat.{ℕ, _<_}
+use Prim.Native.Nat.{ℕ, _+_, _<_}
 use native.Mathlib.Omega.{arith}
-use mathlib.Core.Path.{_≡_, sym, _∙_}
+use mathlib.Core.Path.{_≡_, sym, ap, _∙_}
 use mathlib.Core.Bool.{true}
 use mathlib.Core.List.{List}
 use borrow.Author.Needs.{needs}
@@ -10,9 +10,12 @@ use borrow.Author.Tests.{lt-ltb}
 use lib.ListN.{length}
 use Rattle.cards.specs.declared.types.Chip.{Chip}
 use Rattle.cards.specs.declared.types.Named.the-variants.{Known}
-use Rattle.cards.specs.Cards.{chipOf, hasTable}
+use Rattle.cards.specs.declared.types.Layout.{Layout}
+use Rattle.cards.specs.Cards.{chipOf, hasTable, layoutOf}
 use Rattle.cards.proofs.Tables.{table-found, table-missed}
+use Rattle.bodies.specs.Bodies.{decoded}
 use Rattle.records.specs.Records.{bodyLength}
+use Rattle.records.proofs.Encoding.{body-of-table, length-short}
 use Rattle.records.proofs.Answers.{Whole, plan-refused, plan-accepted}
 use Rattle.records.proofs.plan_from.Statement.{statement}
 use Rattle.records.proofs.plan_from.Tie as tie
@@ -28,14 +31,26 @@ named : (c : tie.After-known-told) → chipOf (start c .args .chip) ≡ Known (c
 named c = sym (c .before .before .before .chip-of .ensures .answer) ∙ c .before .known .given .1
 
 -- that has the table
-abbrev known : tie.After-body-length → tie.After-known-told
+abbrev Laid : Type 0
+Laid = tie.After-known-told2
+
+abbrev known : Laid → tie.After-known-told
 known c = c .before .before .before .before
 
-abbrev bytes : tie.After-body-length → List ℕ
+abbrev table : Laid → ℕ
+table c = start (known c) .args .table
+
+abbrev bytes : Laid → List ℕ
 bytes c = start (known c) .args .bytes .now
 
-has : (c : tie.After-body-length) → hasTable (chip (known c)) (start (known c) .args .table) ≡ true
-has c = table-found _ (c .before .before .before .table-of .ensures) (c .before .enum-told3 .given .1) .0
+abbrev layout : Laid → Layout
+layout c = c .before .layout .given .0 .0
+
+found : (c : Laid) → (hasTable (chip (known c)) (table c) ≡ true) × (layout c ≡ layoutOf (chip (known c)) (table c))
+found c = table-found _ (c .before .before .before .table-of .ensures) (c .before .layout .given .1)
+
+long : (c : Laid) → layout c .settings + layout c .speeds ≡ bodyLength (chip (known c))
+long c = ap (λ (l : Layout). l .settings + l .speeds) (found c .1) ∙ body-of-table (chip (known c)) (table c) (found c .0)
 
 chip-of-requires : tie.Need-chip-of-requires
 chip-of-requires c κs = search needs
@@ -57,6 +72,9 @@ returns c =
 table-of-requires : tie.Need-table-of-requires
 table-of-requires c κs = search needs
 
+enum-known-layout : tie.Need-enum-known-layout
+enum-known-layout c = search needs
+
 enum-told-2 : tie.Need-enum-told-2
 enum-told-2 c = search needs
 
@@ -69,30 +87,29 @@ returns-2 c =
     let missed = table-missed (t .table-of .ensures) (c .before .enum-told2 .given .1) in
     plan-refused _ _ _ (c .refused2 .ensures) (rw (named (t .before), missed))
 
-enum-told-3 : tie.Need-enum-told-3
-enum-told-3 c = search needs
-
-body-length-requires : tie.Need-body-length-requires
-body-length-requires c κs = search needs
+add-length : tie.Need-add-length
+add-length c = omega (arith, long (c .before), length-short (chip (known (c .before))))
 
 refused-requires-3 : tie.Need-refused-requires-3
 refused-requires-3 c κs = search needs
 
 returns-3 : tie.Need-returns-3
 returns-3 c =
-    let b = c .before .before in
-    let short : length (bytes b) < bodyLength (chip (known b)) = omega (arith, c .before .if1 .taken, b .body-length .ensures) in
-    plan-refused _ _ _ (c .refused3 .ensures) (rw (named (known b), has b, lt-ltb _ _ short))
+    let l = c .before .before .before in
+    let short : length (bytes l) < bodyLength (chip (known l)) = omega (arith, c .before .if1 .taken, long l) in
+    plan-refused _ _ _ (c .refused3 .ensures) (rw (named (known l), found l .0, lt-ltb _ _ short))
 
 plan-of-requires : tie.Need-plan-of-requires
 plan-of-requires c κs = search needs
 
 returns-4 : tie.Need-returns-4
 returns-4 c =
-    let b = c .before .before in
-    let whole : Whole (start (known b) .args .chip) (start (known b) .args .table) (bytes b) =
-    record { chip = chip (known b); named = named (known b); has = has b; long = omega (arith, c .before .if1 .left, b .body-length .ensures) } in
-    plan-accepted _ _ _ _ _ whole (b .body-length .ensures) (c .plan-of .ensures .answer)
+    let l = c .before .before .before in
+    let number = start (known l) .args .chip in
+    let whole : Whole number (table l) (bytes l) =
+    record { chip = chip (known l); named = named (known l); has = found l .0; long = omega (arith, c .before .if1 .left, long l) } in
+    plan-accepted _ _ _ whole _ _ (long l)
+    (c .plan-of .ensures .answer ∙ ap (λ (laid : Layout). decoded (laid .shape) number (table l) (bytes l)) (found l .1))
 
 pub plan-from-spec : {M : Type 1} → statement M
 plan-from-spec =
@@ -104,11 +121,11 @@ plan-from-spec =
     refused-requires
     returns
     table-of-requires
+    enum-known-layout
     enum-told-2
     refused-requires-2
     returns-2
-    enum-told-3
-    body-length-requires
+    add-length
     refused-requires-3
     returns-3
     plan-of-requires

@@ -13,7 +13,17 @@ use Rattle.plans.specs.Contracts.{planChecks}
 use Rattle.plans.proofs.Registers.{to-the-end}
 use Rattle.records.specs.Records.{chipIn, tableIn, bodyIn}
 use Rattle.records.specs.Contracts.{recordChecks, TakesBody}
-use Rattle.records.proofs.Answers.{record-refused, mark-wrong, Marked, record-cut, Complete, complete-judged, record-accepted, Taken, plan-taken}
+use Rattle.records.proofs.Answers.{
+  Taken,
+  plan-taken,
+  record-refused,
+  mark-wrong,
+  Marked,
+  record-cut,
+  Complete,
+  complete-judged,
+  record-accepted,
+}
 use Rattle.records.proofs.Encoding.{length-short}
 use Rattle.records.proofs.read.Statement.{statement}
 use Rattle.records.proofs.read.Tie as tie
@@ -43,7 +53,8 @@ abbrev used : tie.After-judge → ℕ
 used c = c .before .before .before .answer .given .0 .0
 
 taken : (c : tie.After-judge)
-    → Taken (chipIn (bytes (plan-from c))) (tableIn (bytes (plan-from c))) (bodyIn (bytes (plan-from c))) (used c) (plan-from c .plan-from .result .plan)
+    → let all = bytes (plan-from c) in
+    Taken (chipIn all) (tableIn all) (bodyIn all) (used c) (plan-from c .plan-from .result .plan)
 taken c = plan-taken _ _ _ _ _ (from (plan-from c)) (c .before .before .before .answer .given .1)
 
 abbrev complete : (c : tie.After-judge) → Complete (bytes (plan-from c))
@@ -113,7 +124,9 @@ refused-requires-3 : tie.Need-refused-requires-3
 refused-requires-3 c κs = search needs
 
 returns-4 : tie.Need-returns-4
-returns-4 c = record-refused _ (c .refused3 .ensures) (ap tells (sym (c .before .before .refusal .given .1)) ∙ judged (c .before .before .before .before))
+returns-4 c =
+    let r = c .before .before in
+    record-refused _ (c .refused3 .ensures) (ap tells (sym (r .refusal .given .1)) ∙ judged (r .before .before))
 
 enum-told-2 : tie.Need-enum-told-2
 enum-told-2 c = search needs
@@ -125,8 +138,10 @@ add-t7 c =
 
 returns-5 : tie.Need-returns-5
 returns-5 c =
-    let T = taken (c .before .before) in
-    record-accepted _ _ _ (complete (c .before .before)) (sym (judged (c .before .before)) ∙ ap tells (c .enum-told2 .given .1)) (ap (λ (n : ℕ). 4 + n) (T .used)) (T .plan-in)
+    let j = c .before .before in
+    let T = taken j in
+    let none = sym (judged j) ∙ ap tells (c .enum-told2 .given .1) in
+    record-accepted _ _ _ (complete j) none (ap (λ (n : ℕ). 4 + n) (T .used)) (T .plan-in)
 
 pub read-spec : {M : Type 1} → statement M
 read-spec =
