@@ -21,7 +21,7 @@ use Rattle.cards.proofs.Columns.{column-at}
 use Rattle.cards.proofs.Tables.{table-sized, register-at, whole-mask, byte-fits}
 use Rattle.curves.specs.declared.Plan.{Plan}
 use Rattle.curves.specs.Planned.{temperaturesInOrder, speedsInOrder}
-use Rattle.curves.specs.Values.{Within, Typed}
+use Rattle.curves.specs.Values.{Within, Sized, Typed}
 use Rattle.curves.proofs.Filled.{planned-sized, planned-within}
 use Rattle.bodies.specs.Bodies.{body}
 use Rattle.plans.specs.Plans.{fits, plannedFor, temperaturesPass, speedsPass}
@@ -64,6 +64,14 @@ all-fit chip (p ∷ ps) (x ∷ vs) e m w =
     eq-eqb (bitAnd x (rowOf chip p .writable)) x (ap (bitAnd x) (m 0 (omega arith)) ∙ byte-fits x (w .0)) in
     ap₂ _&&_ here (all-fit chip ps vs (suc-inj e) (λ k h. m (suc k) (suc-le-suc h)) (w .1))
 
+-- a plan fills its table: as many settings and as many speeds
+module _ (chip : Chip) (plan : Plan) (sized : Sized plan) (has : So (hasTable chip (plan .table))) where
+  pub settings-long : length (tableOf chip (plan .table) .settings) ≡ length (plannedFor chip plan .settings)
+  settings-long = table-sized chip (plan .table) has .0 ∙ sym (planned-sized (shapeOf chip (plan .table)) plan sized .0)
+
+  pub speeds-long : length (tableOf chip (plan .table) .speeds) ≡ length (plannedFor chip plan .speeds)
+  speeds-long = table-sized chip (plan .table) has .1 ∙ sym (planned-sized (shapeOf chip (plan .table)) plan sized .1)
+
 module _ (chip : Chip) (plan : Plan) (typed : Typed plan) (has : So (hasTable chip (plan .table))) where
   abbrev settings : List ℕ
   settings = tableOf chip (plan .table) .settings
@@ -76,12 +84,6 @@ module _ (chip : Chip) (plan : Plan) (typed : Typed plan) (has : So (hasTable ch
 
   abbrev asked : List ℕ
   asked = plannedFor chip plan .speeds
-
-  pub settings-long : length settings ≡ length wanted
-  settings-long = table-sized chip (plan .table) has .0 ∙ sym (planned-sized (shapeOf chip (plan .table)) plan (typed .sized) .0)
-
-  pub speeds-long : length speeds ≡ length asked
-  speeds-long = table-sized chip (plan .table) has .1 ∙ sym (planned-sized (shapeOf chip (plan .table)) plan (typed .sized) .1)
 
   all-long : length (positions (tableOf chip (plan .table))) ≡ length settings + length speeds
   all-long = length-append settings speeds
@@ -111,13 +113,13 @@ module _ (chip : Chip) (plan : Plan) (typed : Typed plan) (has : So (hasTable ch
   -- "at mask FFh every byte fits": a plan's values do
   pub settings-whole : layoutOf chip (plan .table) .whole ≡ true → fits chip settings wanted ≡ true
   settings-whole t =
-      all-fit chip settings wanted settings-long
+      all-fit chip settings wanted (settings-long chip plan (typed .sized) has)
       (λ k h. ap (λ (p : ℕ). rowOf chip p .writable) (sym (in-settings k h)) ∙ whole-mask chip (plan .table) t k (omega (arith, all-long)))
       (planned-within (shapeOf chip (plan .table)) plan typed .0)
 
   pub speeds-whole : layoutOf chip (plan .table) .whole ≡ true → fits chip speeds asked ≡ true
   speeds-whole t =
-      all-fit chip speeds asked speeds-long
+      all-fit chip speeds asked (speeds-long chip plan (typed .sized) has)
       (λ k h.
       ap (λ (p : ℕ). rowOf chip p .writable) (sym (in-speeds k))
       ∙ whole-mask chip (plan .table) t (length settings + k) (omega (arith, all-long)))
@@ -126,20 +128,20 @@ module _ (chip : Chip) (plan : Plan) (typed : Typed plan) (has : So (hasTable ch
   pub settings-fit : planFits chip plan (layoutOf chip (plan .table)) 0 (length settings) ≡ fits chip settings wanted
   settings-fit =
       by-whole settings wanted 0 settings-whole
-      (fit-places chip (registerIn (sheetOf chip) (plan .table)) (body (plannedFor chip plan)) 0 settings wanted settings-long
+      (fit-places chip (registerIn (sheetOf chip) (plan .table)) (body (plannedFor chip plan)) 0 settings wanted (settings-long chip plan (typed .sized) has)
       (λ k h.
       ap (λ (j : ℕ). registerIn (sheetOf chip) (plan .table) j .masks .writable) (zero-add k)
       ∙ mask-at k (omega arith)
       ∙ ap (λ (p : ℕ). rowOf chip p .writable) (in-settings k h))
       (λ k h.
-      ap (λ (j : ℕ). getD (body (plannedFor chip plan)) j 0) (zero-add k) ∙ List·getD-append wanted asked 0 k (omega (arith, settings-long))))
+      ap (λ (j : ℕ). getD (body (plannedFor chip plan)) j 0) (zero-add k) ∙ List·getD-append wanted asked 0 k (omega (arith, settings-long chip plan (typed .sized) has))))
 
   pub speeds-fit : planFits chip plan (layoutOf chip (plan .table)) (length settings) (length speeds) ≡ fits chip speeds asked
   speeds-fit =
       by-whole speeds asked (length settings) speeds-whole
-      (fit-places chip (registerIn (sheetOf chip) (plan .table)) (body (plannedFor chip plan)) (length settings) speeds asked speeds-long
+      (fit-places chip (registerIn (sheetOf chip) (plan .table)) (body (plannedFor chip plan)) (length settings) speeds asked (speeds-long chip plan (typed .sized) has)
       (λ k h. mask-at (length settings + k) (omega arith) ∙ ap (λ (p : ℕ). rowOf chip p .writable) (in-speeds k))
-      (λ k h. ap (λ (n : ℕ). getD (body (plannedFor chip plan)) (n + k) 0) settings-long ∙ getD-append-add wanted asked k 0))
+      (λ k h. ap (λ (n : ℕ). getD (body (plannedFor chip plan)) (n + k) 0) (settings-long chip plan (typed .sized) has) ∙ getD-append-add wanted asked k 0))
 
   -- what the tests of a plan say, each by itself and both together, once its table's layout is told
   module _ (l : Layout) (e : l ≡ layoutOf chip (plan .table)) where

@@ -19,7 +19,7 @@ use Rattle.refusal.specs.declared.Count.{Count}
 use Rattle.refusal.specs.declared.Count.the-variants as counted
 use Rattle.cards.specs.declared.types.Chip.{Chip}
 use Rattle.curves.specs.declared.Plan.{Plan}
-use Rattle.curves.specs.Values.{Typed}
+use Rattle.curves.specs.Values.{Sized}
 use Rattle.plans.specs.Contracts.{planChecks}
 use Rattle.scripts.specs.declared.making.Load.{Load}
 use Rattle.scripts.specs.Scripts.{Pair, flat, scriptOf, scriptFor}
@@ -75,16 +75,16 @@ take-least count ws = by-size (leb count (length ws)) refl
         ap (λ (n : ℕ). take n ws) (min-eq-right past) ∙ take-all (length ws) ws (omega arith) ∙ sym (take-all count ws past)
 
 -- as many writes as are asked for, or all
-pub made-script : (chip : Chip) (plan : Plan) (count : ℕ) {n w : ℕ} {old new : List ℕ} → Typed plan → w ≡ writesOf (loadOf chip plan) → n ≡ min count w
+pub made-script : (chip : Chip) (plan : Plan) (count : ℕ) {n w : ℕ} {old new : List ℕ} → Sized plan → w ≡ writesOf (loadOf chip plan) → n ≡ min count w
     → new ≡ madeOf (loadOf chip plan) n old → Makes chip plan count old n new
-made-script chip plan count {n} {w} {old} typed e q m =
-    let all : n ≡ min count (length (scriptOf chip plan)) = q ∙ ap (min count) (e ∙ load-writes chip plan typed) in
+made-script chip plan count {n} {w} {old} sized e q m =
+    let all : n ≡ min count (length (scriptOf chip plan)) = q ∙ ap (min count) (e ∙ load-writes chip plan sized) in
     let some : n ≤ writesOf (loadOf chip plan) = rw (q ∙ ap (min count) e) (min-le-right count (writesOf (loadOf chip plan))) in
     record {
       answer = all;
       bytes =
           m
-          ∙ load-makes chip plan typed n some old
+          ∙ load-makes chip plan sized n some old
           ∙ ap (λ (k : ℕ). played chip (take k (scriptOf chip plan)) old) all
           ∙ ap (λ (ws : List Pair). played chip ws old) (take-least count (scriptOf chip plan));
     }

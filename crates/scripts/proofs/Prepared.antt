@@ -20,7 +20,7 @@ use Rattle.cards.proofs.Tables.{table-short, table-none, register-position, reg
 use Rattle.images.specs.Bytes.{storedAt, placed}
 use Rattle.curves.specs.declared.Plan.{Plan}
 use Rattle.curves.specs.Planned.{fullOf}
-use Rattle.curves.specs.Values.{Typed}
+use Rattle.curves.specs.Values.{Sized}
 use Rattle.bodies.specs.Bodies.{body}
 use Rattle.plans.specs.Plans.{plannedFor}
 use Rattle.plans.proofs.Fits.{settings-long, speeds-long}
@@ -96,12 +96,12 @@ module _ (chip : Chip) (plan : Plan) where
   empty : table ≡ missing → Describes load pairs
   empty e = rw e (record { writes = refl; places = λ k h. absurd (omega arith) })
 
-  load-describes : Typed plan → Describes load (placements chip plan)
+  load-describes : Sized plan → Describes load (placements chip plan)
   unfolding placements
-  load-describes typed = by-table (hasTable chip (plan .table)) refl
+  load-describes sized = by-table (hasTable chip (plan .table)) refl
     where
       by-table : (has : Bool) → hasTable chip (plan .table) ≡ has → Describes load pairs
-      by-table true t = filled (settings-long chip plan typed t) (speeds-long chip plan typed t)
+      by-table true t = filled (settings-long chip plan sized t) (speeds-long chip plan sized t)
       by-table false t = empty (table-none chip (plan .table) t)
 
   -- each register of a write has the masks of its position
@@ -127,9 +127,9 @@ module _ (chip : Chip) (plan : Plan) where
       ∙ ap (placed chip (w .register .position) (w .byte)) (made-laid n (omega arith) image)
       ∙ sym (laid-append chip (pairsOf load n) ((w .register .position, w .byte) ∷ []) image)
 
-  module _ (typed : Typed plan) where
+  module _ (sized : Sized plan) where
     places : Describes load (placements chip plan)
-    places = load-describes typed
+    places = load-describes sized
 
     pub load-writes : writesOf load ≡ length (scriptOf chip plan)
     load-writes = places .writes ∙ sym (ap length (bus-plain chip (placements chip plan)))

@@ -27,10 +27,10 @@ refused-short : (number refusal : ℕ) → number < 1000 → refusal < 10 → le
 unfolding refusedLine
 refused-short number refusal h l = simp length-append (omega (arith, three-digits number h, one-digit refusal l))
 
-header-short : (number chip table writes : ℕ) → number < 1000 → chip < 10 → table < 10 → writes < 100
-    → length (headerLine number chip table writes) ≤ 34
+header-short : (number chip table writes : ℕ) → number < 1000 → chip < 10 → table < 100 → writes < 100
+    → length (headerLine number chip table writes) ≤ 35
 header-short number chip table writes h c t w =
-    simp length-append (omega (arith, three-digits number h, one-digit chip c, one-digit table t, two-digits writes w))
+    simp length-append (omega (arith, three-digits number h, one-digit chip c, two-digits table t, two-digits writes w))
 
 plan-short : (number : ℕ) (bytes : List ℕ) {used : ℕ} {plan : Plan} → number < 1000 → Accepted bytes used plan → length (planText number plan) ≤ 10 * used
 unfolding planText

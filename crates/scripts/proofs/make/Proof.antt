@@ -40,7 +40,7 @@ returns c =
     let load = told .before .load-of .ensures in
     let start = told .before .before .before in
     let a = start .args in
-    made-script (a .chip) (a .plan) (a .count) (plan-typed (a .plan) _ (start .good .1 .0))
+    made-script (a .chip) (a .plan) (a .count) (plan-typed (a .plan) _ (start .good .1 .0) .sized)
     (told .length .ensures ∙ ap writesOf load) (chosen .least .ensures)
     (c .before .before .make-all .ensures ∙ ap (λ (l : Load). madeOf l (chosen .least .result) (a .image .now)) load)
 

@@ -46,11 +46,11 @@ returns-2 c =
     let start = asked .before .before in
     let plan = start .args .plan in
     let chip = known .chip .given .0 .0 in
-    let typed = plan-typed plan _ (start .good .0) in
+    let sized = plan-typed plan _ (start .good .0) .sized in
     let told = known .chip .given .1 in
     let pairs =
     ap (λ (l : Load). pairsOf l (writesOf l)) (made .load-of .ensures)
-    ∙ load-pairs chip plan typed
+    ∙ load-pairs chip plan sized
     ∙ ap (λ (n : Named). whenKnown n (λ c. scriptOf c plan) []) (sym (accepted-chip chip (asked .accept .ensures) told)) in
     script-put _ _ (accepted-plan chip (asked .accept .ensures) told) pairs (c .before .before .put-all .ensures)
 
