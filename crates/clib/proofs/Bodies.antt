@@ -13,6 +13,7 @@ use Rattle.refusal.specs.Answers.{tellsCount}
 use Rattle.refusal.specs.Checks.{Check, first, roomChecks}
 use Rattle.refusal.proofs.Numbers.{numberOf-positive}
 use Rattle.refusal.proofs.Passed.{first-refused, told-refused, when-refused, same-told, same-left}
+use Rattle.cards.specs.Cards.{shapeOf}
 use Rattle.curves.specs.declared.Plan.{Plan}
 use Rattle.plans.specs.declared.Asked.{Asked}
 use Rattle.plans.specs.declared.Asked.the-variants as asked
@@ -72,10 +73,11 @@ pub crossed : (chip table : ℕ) (body : List ℕ) (n : ℕ) (found : Found) →
 crossed chip table body n found P e =
     let T = plan-taken chip table body n found P e in
     let W = T .whole in
-    let in-body : planOf chip table body ≡ decoded (W .chip) table body = rw (W .named) in
+    let shape = shapeOf (W .chip) table in
+    let in-body : planOf chip table body ≡ decoded shape chip table body = rw (W .named) in
     record {
       same = T .plan-in ∙ sym in-body;
-      sized = rw (T .plan-in) (decoded-sized (W .chip) table body);
+      sized = rw (T .plan-in) (decoded-sized shape chip table body);
       asks = ap (λ (p : Plan). first (askPlanChecks p)) in-body ∙ whole-asked chip table body W;
       checks = λ more. ap (λ (p : Plan). first (planChecks p ++ more)) in-body ∙ whole-judged chip table body W more;
     }

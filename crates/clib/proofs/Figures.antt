@@ -10,12 +10,14 @@ use lib.Dec.{eqb}
 use lib.IntN.{ℤ, pos, negℤ}
 use lib.ListN.{length, replicate}
 use Rattle.refusal.specs.Checks.{first, told, toldOr, roomChecks}
-use Rattle.cards.specs.Cards.{sheetOf, chipOf, whenKnown, tableOf}
+use Rattle.cards.specs.Cards.{sheetOf, chipOf, whenKnown, rowOf, shapeOf}
+use Rattle.cards.specs.Nct7802y as nct7802y
+use Rattle.cards.specs.F75373s as f75373s
 use Rattle.cards.specs.Identity.{confirmed}
 use Rattle.curves.specs.declared.Plan.{Plan}
 use Rattle.curves.specs.Curves as curves
 use Rattle.curves.specs.Planned.{asks}
-use Rattle.plans.specs.Plans.{held}
+use Rattle.plans.specs.Plans.{held, temperaturesPass, speedsPass}
 use Rattle.plans.specs.Contracts.{askImageChecks}
 use Rattle.images.specs.Bytes.{position, seen}
 use Rattle.images.specs.Contracts.{imageChecks}
@@ -88,7 +90,7 @@ answer (readRecord bs) =
     ofRecord (told (recordChecks bs) (whenKnown (chipOf (chipIn bs)) recordLength 0))
     (cond (eqb (first (recordChecks bs)) 0) (planIn bs) noPlan)
 answer (askedOfImage chip table image t) =
-    packs (told (askImageChecks chip table image) (whenKnown (chipOf chip) (λ c. asks c (held (tableOf c table) image) t) 0))
+    packs (told (askImageChecks chip table image) (whenKnown (chipOf chip) (λ c. asks (shapeOf c table) (held c table image) t) 0))
 answer (translate input old) = packs (told (roomChecks (length (textOf input)) old) (length (textOf input)))
 
 only : (call : Call) (r : ℕ) → Promise call r → r ≡ answer call
@@ -205,5 +207,5 @@ figures =
     ∷ []
 
 pub figures-hold : AllHold figures
-unfolding sheetOf agree figures factsOf position confirmed curves.words curves.slope curves.stepRule textOf endLine decimal
+unfolding sheetOf rowOf agree figures factsOf position temperaturesPass speedsPass nct7802y.card f75373s.card confirmed curves.words curves.halves curves.slope curves.stepRule textOf endLine decimal
 figures-hold = each figures refl

@@ -7,25 +7,22 @@ use mathlib.Core.Path.{_≡_, ap}
 use mathlib.Core.Bool.{Bool, true, false, cond}
 use mathlib.Core.List.{List, [], _∷_, _++_}
 use lib.Dec.{eqb}
-use lib.ListN.{length, getD, length-append}
+use lib.ListN.{length, getD}
 use Rattle.refusal.specs.declared.Count.{Count}
 use Rattle.refusal.specs.Answers.{tellsCount}
 use Rattle.refusal.specs.Checks.{Check, first, told, roomChecks}
 use Rattle.cards.specs.declared.types.Chip.{Chip}
 use Rattle.cards.specs.declared.types.Named.{Named}
 use Rattle.cards.specs.declared.types.Named.the-variants.{Known, Unknown}
-use Rattle.cards.specs.Cards.{chipOf, whenKnown, tableOf}
-use Rattle.cards.proofs.Tables.{table-short}
+use Rattle.cards.specs.Cards.{chipOf, whenKnown}
 use Rattle.curves.specs.declared.Plan.{Plan}
-use Rattle.curves.specs.Curves.{points}
-use Rattle.curves.specs.Orders.{fulls}
-use Rattle.curves.specs.Planned.{planned}
 use Rattle.curves.specs.Values.{Sized}
 use Rattle.records.specs.Records.{encoded, recordLength, chipIn}
 use Rattle.records.specs.Contracts.{writeChecks, WritesRecord}
 use Rattle.records.proofs.Encoding.{length-short, record-short}
-use Rattle.scripts.specs.Scripts.{scriptOf, scriptFor, fullOf}
+use Rattle.scripts.specs.Scripts.{scriptOf, scriptFor}
 use Rattle.scripts.specs.Contracts.{scriptChecks, Scripts}
+use Rattle.scripts.proofs.Lengths.{script-short}
 use Rattle.plays.specs.Contracts.{playChecks, Plays}
 use Rattle.translation.specs.Text.{textOf}
 use Rattle.translation.specs.Contracts.{Translates}
@@ -38,29 +35,6 @@ told-within {t} checks value bound h e = rw (ap (λ (u : ℕ × ℕ). u .1) e) (
     by-test : (b : Bool) → cond b value 0 < bound
     by-test true = h
     by-test false = omega arith
-
--- as many writes as registers, at most
-points-short : (registers bytes : List ℕ) → length (points registers bytes) ≤ length registers
-points-short [] bytes = omega arith
-points-short (r ∷ rs) [] = omega arith
-points-short (r ∷ rs) (b ∷ bs) = omega (arith, points-short rs bs)
-
-script-short : (chip : Chip) (plan : Plan) → length (scriptOf chip plan) ≤ 28
-unfolding scriptOf
-script-short chip plan =
-    let settings = tableOf chip (plan .table) .settings in
-    let speeds = tableOf chip (plan .table) .speeds in
-    let curve = planned chip plan in
-    omega (
-      arith,
-      length-append (points speeds (fulls (fullOf chip) speeds)) (points settings (curve .settings) ++ points speeds (curve .speeds)),
-      length-append (points settings (curve .settings)) (points speeds (curve .speeds)),
-      points-short speeds (fulls (fullOf chip) speeds),
-      points-short settings (curve .settings),
-      points-short speeds (curve .speeds),
-      table-short chip (plan .table),
-      length-append settings speeds,
-    )
 
 script-within : (plan : Plan) → length (scriptFor plan) ≤ 28
 script-within plan = by-name (chipOf (plan .chip))

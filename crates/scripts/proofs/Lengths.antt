@@ -4,7 +4,7 @@ use Prim.Native.Nat.{ℕ, _+_, _≤_}
 use native.Mathlib.Omega.{arith}
 use mathlib.Core.Path.{_≡_, refl, sym, ap, ap₂, _∙_}
 use mathlib.Core.Bool.{So}
-use mathlib.Core.List.{List}
+use mathlib.Core.List.{List, [], _∷_, _++_}
 use borrow.Author.Tests.{not-false}
 use lib.ListN.{length, length-append}
 use Rattle.refusal.specs.Checks.{first}
@@ -19,10 +19,14 @@ use Rattle.cards.specs.Sheets.{room}
 use Rattle.cards.specs.Cards.{sheetOf, chipOf, hasTable, tableOf, shapeOf}
 use Rattle.cards.proofs.Tables.{table-laid, table-sized, table-short}
 use Rattle.curves.specs.declared.Plan.{Plan}
+use Rattle.curves.specs.Orders.{fulls}
+use Rattle.curves.specs.Planned.{fullOf}
 use Rattle.curves.specs.Values.{Sized}
+use Rattle.plans.specs.Plans.{plannedFor}
 use Rattle.plans.specs.Contracts.{planChecks}
-use Rattle.scripts.specs.Scripts.{scriptOf, scriptLength, scriptFor}
+use Rattle.scripts.specs.Scripts.{writes, placements, scriptOf, scriptLength, scriptFor}
 use Rattle.scripts.specs.Contracts.{scriptChecks, Scripts}
+use Rattle.scripts.proofs.Bus.{bus-plain}
 use Rattle.scripts.proofs.Prepared.{load-writes}
 
 -- "13 writes", "24 writes"
@@ -51,10 +55,28 @@ script-counts {plan} {out} {new} {n} chip e sized p =
     let all : n ≡ length (scriptFor plan) = ap (λ (t : ℕ × ℕ). t .1) (p .answer) ∙ sym (when-passed (length (scriptFor plan)) 0 none) in
     (rw e at all) ∙ script-of-plan chip plan sized has
 
--- no script has more than 28 writes, since a table has at most 14 registers
-pub script-short : (chip : Chip) (plan : Plan) → Sized plan → length (scriptOf chip plan) ≤ 28
-script-short chip plan sized =
-    let table = tableOf chip (plan .table) in
-    let short = table-short chip (plan .table) in
-    let long = length-append (table .settings) (table .speeds) in
-    omega (arith, load-writes chip plan sized, short, long)
+-- as many writes as registers, at most
+writes-short : (registers bytes : List ℕ) → length (writes registers bytes) ≤ length registers
+writes-short [] bytes = omega arith
+writes-short (r ∷ rs) [] = omega arith
+writes-short (r ∷ rs) (b ∷ bs) = omega (arith, writes-short rs bs)
+
+-- so no script has more than 28, whatever its plan holds
+pub script-short : (chip : Chip) (plan : Plan) → length (scriptOf chip plan) ≤ 28
+unfolding placements
+script-short chip plan =
+    let settings = tableOf chip (plan .table) .settings in
+    let speeds = tableOf chip (plan .table) .speeds in
+    let full = fulls (fullOf (shapeOf chip (plan .table))) speeds in
+    let curve = plannedFor chip plan in
+    omega (
+      arith,
+      ap length (bus-plain chip (placements chip plan)),
+      length-append (writes speeds full) (writes settings (curve .settings) ++ writes speeds (curve .speeds)),
+      length-append (writes settings (curve .settings)) (writes speeds (curve .speeds)),
+      writes-short speeds full,
+      writes-short settings (curve .settings),
+      writes-short speeds (curve .speeds),
+      table-short chip (plan .table),
+      length-append settings speeds,
+    )
