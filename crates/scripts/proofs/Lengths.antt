@@ -9,17 +9,15 @@ use borrow.Author.Tests.{not-false}
 use lib.ListN.{length, length-append}
 use Rattle.refusal.specs.Checks.{first}
 use Rattle.refusal.specs.declared.Count.the-variants as counted
-use Rattle.refusal.proofs.Passed.{Passed, all-passed, when-passed}
+use Rattle.refusal.proofs.Passed.{all-passed, when-passed}
 use Rattle.cards.specs.declared.types.Chip.{Chip}
 use Rattle.cards.specs.declared.types.Chip.the-variants.{Nct7802y, F75373s}
-use Rattle.cards.specs.declared.types.Named.{Named}
-use Rattle.cards.specs.declared.types.Named.the-variants.{Known, Unknown}
+use Rattle.cards.specs.declared.types.Named.the-variants.{Known}
 use Rattle.cards.specs.declared.types.Layout.{Layout}
 use Rattle.cards.specs.Cards.{sheetOf, chipOf, hasTable, tableOf}
 use Rattle.cards.proofs.Tables.{table-laid, table-short}
 use Rattle.curves.specs.declared.Plan.{Plan}
 use Rattle.curves.specs.Values.{Typed}
-use Rattle.plans.specs.Contracts.{planChecks}
 use Rattle.scripts.specs.Scripts.{scriptOf, scriptLength, scriptFor}
 use Rattle.scripts.specs.Contracts.{scriptChecks, Scripts}
 use Rattle.scripts.proofs.Prepared.{load-writes}

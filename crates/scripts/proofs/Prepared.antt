@@ -3,7 +3,7 @@
 use Prim.Native.Nat.{ℕ, zero, suc, _+_, _-_, _≤_, _<_}
 use native.Mathlib.Omega.{arith}
 use mathlib.Core.Path.{_≡_, refl, sym, ap, ap₂, subst, _∙_}
-use mathlib.Core.Bool.{Bool, true, false, So}
+use mathlib.Core.Bool.{Bool, true, false}
 use mathlib.Core.List.{List, [], _∷_, _++_}
 use borrow.Author.Tests.{ltb-true, ltb-false}
 use lib.Dec.{ltb}
@@ -12,9 +12,9 @@ use lib.Seq.{take-suc, take-all}
 use Rattle.cards.specs.declared.types.Chip.{Chip}
 use Rattle.cards.specs.declared.types.Masks.{Masks}
 use Rattle.cards.specs.declared.types.Register.{Register}
-use Rattle.cards.specs.Rows.{Table, positions, column, registerAt, masksIn}
-use Rattle.cards.specs.Sheets.{missing, registerIn}
-use Rattle.cards.specs.Cards.{sheetOf, cardOf, rowOf, hasTable, tableOf, shapeOf}
+use Rattle.cards.specs.Rows.{Table, masksIn}
+use Rattle.cards.specs.Sheets.{missing}
+use Rattle.cards.specs.Cards.{rowOf, hasTable, tableOf, shapeOf}
 use Rattle.cards.proofs.Columns.{column-at}
 use Rattle.cards.proofs.Tables.{table-short, table-none, register-position, register-at}
 use Rattle.images.specs.Bytes.{storedAt, placed}
@@ -25,7 +25,6 @@ use Rattle.bodies.specs.Bodies.{body}
 use Rattle.plans.specs.Plans.{plannedFor}
 use Rattle.plans.proofs.Fits.{settings-long, speeds-long}
 use Rattle.scripts.specs.declared.making.Load.{Load}
-use Rattle.scripts.specs.declared.making.Write.{Write}
 use Rattle.scripts.specs.Scripts.{Pair, script, placements, scriptOf}
 use Rattle.scripts.specs.Plays.{laid, played}
 use Rattle.scripts.specs.Making.{writesOf, registerOf, writeAt, pairsOf, madeOf, Short, loadOf}

@@ -4,7 +4,7 @@ use Prim.Native.Nat.{ℕ, zero, suc, _+_, _-_, _*_, _≤_, _<_}
 use native.Mathlib.Numerals.{add-one}
 use native.Mathlib.Omega.{arith}
 use mathlib.Core.Path.{_≡_, refl, sym, ap, ap₂, _∙_}
-use mathlib.Core.Bool.{Bool, true, false, cond}
+use mathlib.Core.Bool.{Bool, true, false}
 use mathlib.Core.List.{List, [], _∷_, _++_, append-assoc}
 use borrow.Author.Tests.{lt-ltb, le-ltb}
 use lib.Dec.{ltb}
@@ -20,7 +20,7 @@ use Rattle.images.proofs.Laws.{storedAt-length}
 use Rattle.scripts.specs.declared.making.Load.{Load}
 use Rattle.scripts.specs.declared.making.Write.{Write}
 use Rattle.scripts.specs.Scripts.{Pair, flat}
-use Rattle.scripts.specs.Making.{writesOf, registerOf, writeAt, pairsOf, madeOf, Puts}
+use Rattle.scripts.specs.Making.{writesOf, writeAt, pairsOf, madeOf, Puts}
 
 flat-append : (xs ys : List Pair) → flat (xs ++ ys) ≡ flat xs ++ flat ys
 flat-append [] ys = refl
