@@ -3,7 +3,7 @@
 use Prim.Native.Nat.{ℕ, zero, suc, _+_, _-_, _≤_, _<_, suc-le-suc}
 use native.Mathlib.Nat.{zero-add, add-zero, add-suc, suc-add, suc-inj}
 use native.Mathlib.Omega.{arith}
-use mathlib.Core.Path.{_≡_, refl, sym, ap, ap₂, subst, _∙_}
+use mathlib.Core.Path.{_≡_, refl, sym, ap, ap₂, _∙_}
 use mathlib.Core.Bool.{Bool, true, false, So, cond, _&&_}
 use mathlib.Core.List.{List, [], _∷_}
 use borrow.Author.Tests.{eq-eqb}
@@ -16,7 +16,7 @@ use Rattle.cards.specs.declared.types.Layout.{Layout}
 use Rattle.cards.specs.declared.types.Register.{Register}
 use Rattle.cards.specs.Rows.{positions, column}
 use Rattle.cards.specs.Sheets.{registerIn}
-use Rattle.cards.specs.Cards.{sheetOf, cardOf, rowOf, hasTable, tableOf, layoutOf, shapeOf, fitsAt}
+use Rattle.cards.specs.Cards.{sheetOf, rowOf, hasTable, tableOf, layoutOf, shapeOf, fitsAt}
 use Rattle.cards.proofs.Columns.{column-at}
 use Rattle.cards.proofs.Tables.{table-sized, register-at, whole-mask, byte-fits}
 use Rattle.curves.specs.declared.Plan.{Plan}

@@ -11,7 +11,6 @@ use Rattle.refusal.specs.declared.Count.the-variants as counted
 use Rattle.refusal.specs.declared.Outcome.the-variants as outcome
 use Rattle.refusal.proofs.Passed.{all-passed, first-passed, when-passed, when-refused, told-passed, told-refused}
 use Rattle.cards.specs.declared.types.Chip.{Chip}
-use Rattle.cards.specs.declared.types.Named.{Named}
 use Rattle.cards.specs.declared.types.Named.the-variants.{Known}
 use Rattle.cards.specs.Cards.{chipOf, whenKnown}
 use Rattle.identities.specs.Contracts.{identityChecks, Confirms}

@@ -35,7 +35,7 @@ use Rattle.curves.specs.declared.Plan.{Plan}
 use Rattle.bodies.specs.Bodies.{decoded}
 use Rattle.plans.specs.Contracts.{askPlanChecks, orderChecks, planChecks}
 use Rattle.records.specs.declared.Found.{Found}
-use Rattle.records.specs.Records.{bodyLength, recordLength, recordOf, encoded, chipIn, tableIn, bodyIn, noPlan, planOf, planIn}
+use Rattle.records.specs.Records.{bodyLength, recordLength, recordOf, encoded, chipNumberIn, tableNumberIn, bodyIn, noPlan, planOf, planIn}
 use Rattle.records.specs.Parts.{Refuses, Puts}
 use Rattle.records.specs.Contracts.{wrongMark, bodyChecks, bodyPlanChecks, recordChecks, writeChecks, TakesBody, ReadsRecord, WritesRecord}
 use Rattle.bodies.proofs.Laws.{decoded-chip, decoded-table}
@@ -148,14 +148,14 @@ pub record Marked (bytes : List ℕ) : Type 0 where
   pub mark : wrongMark bytes ≡ false
 
 marked-checks : (bytes : List ℕ) → Marked bytes
-    → first (recordChecks bytes) ≡ first (bodyPlanChecks (chipIn bytes) (tableIn bytes) (bodyIn bytes))
+    → first (recordChecks bytes) ≡ first (bodyPlanChecks (chipNumberIn bytes) (tableNumberIn bytes) (bodyIn bytes))
 marked-checks bytes M = rw (le-ltb (length bytes) 4 (M .long), M .mark)
 
 -- one whose body is refused is refused as its body is
-pub record-cut : (bytes : List ℕ) (refusal : Refusal) (r : Found) → Marked bytes → TakesBody (chipIn bytes) (tableIn bytes) (bodyIn bytes) r
-    → r .answer ≡ counted.Refused refusal → ReadsRecord bytes r
+pub record-cut : (bytes : List ℕ) (refusal : Refusal) (r : Found) → Marked bytes
+    → TakesBody (chipNumberIn bytes) (tableNumberIn bytes) (bodyIn bytes) r → r .answer ≡ counted.Refused refusal → ReadsRecord bytes r
 record-cut bytes refusal r M P e =
-    let checks = bodyChecks (chipIn bytes) (tableIn bytes) (bodyIn bytes) in
+    let checks = bodyChecks (chipNumberIn bytes) (tableNumberIn bytes) (bodyIn bytes) in
     let number : numberOf refusal ≡ first checks = ap (λ (t : ℕ × ℕ). t .0) (ap tellsCount (sym e) ∙ P .answer) in
     let all : numberOf refusal ≡ first (recordChecks bytes) =
     number
@@ -166,20 +166,20 @@ record-cut bytes refusal r M P e =
 -- one that lacks nothing is judged as its plan is
 pub record Complete (bytes : List ℕ) : Type 0 where
   pub marked : Marked bytes
-  pub whole : Whole (chipIn bytes) (tableIn bytes) (bodyIn bytes)
+  pub whole : Whole (chipNumberIn bytes) (tableNumberIn bytes) (bodyIn bytes)
 
 abbrev pub recordPlan : (bytes : List ℕ) → Complete bytes → Plan
-recordPlan bytes C = bodyPlan (chipIn bytes) (tableIn bytes) (bodyIn bytes) (C .whole)
+recordPlan bytes C = bodyPlan (chipNumberIn bytes) (tableNumberIn bytes) (bodyIn bytes) (C .whole)
 
 pub complete-judged : (bytes : List ℕ) (C : Complete bytes) → first (planChecks (recordPlan bytes C)) ≡ first (recordChecks bytes)
 complete-judged bytes C =
-    whole-judged (chipIn bytes) (tableIn bytes) (bodyIn bytes) (C .whole) [] ∙ sym (marked-checks bytes (C .marked))
+    whole-judged (chipNumberIn bytes) (tableNumberIn bytes) (bodyIn bytes) (C .whole) [] ∙ sym (marked-checks bytes (C .marked))
 
 pub record-accepted : (bytes : List ℕ) (n : ℕ) (plan : Plan) (C : Complete bytes) → first (recordChecks bytes) ≡ 0
     → n ≡ recordLength (C .whole .chip) → plan ≡ recordPlan bytes C
     → ReadsRecord bytes (record { answer = counted.Of n; plan = plan })
 record-accepted bytes n plan C none e d =
-    let used : n ≡ whenKnown (chipOf (chipIn bytes)) recordLength 0 = rw (C .whole .named) e in
+    let used : n ≡ whenKnown (chipOf (chipNumberIn bytes)) recordLength 0 = rw (C .whole .named) e in
     let read : plan ≡ planIn bytes = rw (C .whole .named) d in
     record {
       answer = told-passed (recordChecks bytes) n none ∙ ap (told (recordChecks bytes)) used;

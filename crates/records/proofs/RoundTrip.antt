@@ -26,7 +26,7 @@ use Rattle.plans.specs.Contracts.{orderChecks, planChecks}
 use Rattle.plans.proofs.Laws.{passed-plan, accepted-known}
 use Rattle.records.specs.declared.Found.{Found}
 use Rattle.curves.specs.Values.{Sized}
-use Rattle.records.specs.Records.{bodyLength, recordLength, recordOf, encoded, chipIn, tableIn, bodyIn, noPlan, planIn, own}
+use Rattle.records.specs.Records.{bodyLength, recordLength, recordOf, encoded, chipNumberIn, tableNumberIn, bodyIn, noPlan, planIn, own}
 use Rattle.records.specs.Contracts.{bodyChecks, bodyPlanChecks, recordChecks, writeChecks, ReadsRecord, WritesRecord}
 use Rattle.bodies.proofs.Laws.{decoded-chip, decoded-table, body-back, encode-decode}
 use Rattle.records.proofs.Answers.{told-of, whole-body, Complete, recordPlan, complete-judged}
@@ -36,11 +36,11 @@ use Rattle.records.proofs.Encoding.{body-of-shape, body-of-plan, record
 pub whole-record : (bytes : List ℕ) → first (recordChecks bytes) ≡ 0 → Complete bytes
 whole-record bytes h =
     let p = all-passed (recordChecks bytes) refl h in
-    let checks = bodyChecks (chipIn bytes) (tableIn bytes) (bodyIn bytes) in
-    let passed : first (bodyPlanChecks (chipIn bytes) (tableIn bytes) (bodyIn bytes)) ≡ 0 = rw (p .0, p .1 .0) at h in
+    let checks = bodyChecks (chipNumberIn bytes) (tableNumberIn bytes) (bodyIn bytes) in
+    let passed : first (bodyPlanChecks (chipNumberIn bytes) (tableNumberIn bytes) (bodyIn bytes)) ≡ 0 = rw (p .0, p .1 .0) at h in
     record {
       marked = record { long = ltb-false (length bytes) 4 (p .0); mark = p .1 .0 };
-      whole = whole-body (chipIn bytes) (tableIn bytes) (bodyIn bytes) (first-front checks (orderChecks (planIn bytes)) refl passed);
+      whole = whole-body (chipNumberIn bytes) (tableNumberIn bytes) (bodyIn bytes) (first-front checks (orderChecks (planIn bytes)) refl passed);
     }
 
 header-split : (bytes : List ℕ) (m : ℕ) → 4 ≤ length bytes
@@ -58,16 +58,16 @@ complete-encoded : (bytes : List ℕ) (C : Complete bytes) → ((k : ℕ) → ge
     → encoded (recordPlan bytes C) ≡ take (recordLength (C .whole .chip)) bytes
 complete-encoded bytes C small =
     let chip = C .whole .chip in
-    let shape = shapeOf chip (tableIn bytes) in
+    let shape = shapeOf chip (tableNumberIn bytes) in
     let plan = recordPlan bytes C in
     let marks = and-eq-true-iff (eqb (getD bytes 0 0) 0x43) (eqb (getD bytes 1 0) 0x50) .0 (not-false _ (C .marked .mark)) in
-    let number = decoded-chip shape (chipIn bytes) (tableIn bytes) (bodyIn bytes) in
-    let table = decoded-table shape (chipIn bytes) (tableIn bytes) (bodyIn bytes) in
+    let number = decoded-chip shape (chipNumberIn bytes) (tableNumberIn bytes) (bodyIn bytes) in
+    let table = decoded-table shape (chipNumberIn bytes) (tableNumberIn bytes) (bodyIn bytes) in
     let bytes-small : (k : ℕ) → getD (bodyIn bytes) k 0 < 256 = λ k. rw (getD-drop 4 bytes k 0) (small (4 + k)) in
-    let size = body-of-shape chip (tableIn bytes) (C .whole .has) in
+    let size = body-of-shape chip (tableNumberIn bytes) (C .whole .has) in
     let laid : body (plannedFor chip plan) ≡ take (bodyLength chip) (bodyIn bytes) =
     ap (λ (t : ℕ). body (planned (shapeOf chip t) plan)) table
-    ∙ encode-decode shape (chipIn bytes) (tableIn bytes) (bodyIn bytes) (omega (arith, size, C .whole .long)) bytes-small
+    ∙ encode-decode shape (chipNumberIn bytes) (tableNumberIn bytes) (bodyIn bytes) (omega (arith, size, C .whole .long)) bytes-small
     ∙ ap (λ (n : ℕ). take n (bodyIn bytes)) size in
     let whole : encoded plan ≡ recordOf chip plan = rw (number, C .whole .named) in
     whole
@@ -87,7 +87,7 @@ pub record Accepts (bytes : List ℕ) (n : ℕ) (plan : Plan) : Type 0 where
 pub read-accepts : (bytes : List ℕ) (n : ℕ) (q : Found) → ((k : ℕ) → getD bytes k 0 < 256) → ReadsRecord bytes q → q .answer ≡ counted.Of n
     → Accepts bytes n (q .plan)
 read-accepts bytes n q small R e =
-    let t = told-of (recordChecks bytes) (whenKnown (chipOf (chipIn bytes)) recordLength 0) n (q .answer) e (R .answer) in
+    let t = told-of (recordChecks bytes) (whenKnown (chipOf (chipNumberIn bytes)) recordLength 0) n (q .answer) e (R .answer) in
     let C = whole-record bytes (t .0) in
     let chip = C .whole .chip in
     let length-is : n ≡ recordLength chip = rw (C .whole .named) at (t .1) in

@@ -13,7 +13,7 @@ use Rattle.cards.specs.Cards.{chipOf, whenKnown, unknown, noTable}
 use Rattle.curves.specs.declared.Plan.{Plan}
 use Rattle.plans.specs.Contracts.{orderChecks, planChecks}
 use Rattle.records.specs.declared.Found.{Found}
-use Rattle.records.specs.Records.{bodyLength, recordLength, encoded, chipIn, tableIn, bodyIn, noPlan, planOf, planIn}
+use Rattle.records.specs.Records.{bodyLength, recordLength, encoded, chipNumberIn, tableNumberIn, bodyIn, noPlan, planOf, planIn}
 
 -- refusal 1: "a plan record has fewer than 4 bytes left"
 abbrev pub headerCutShort : List ℕ → Bool
@@ -38,7 +38,7 @@ bodyPlanChecks chip table bytes = bodyChecks chip table bytes ++ orderChecks (pl
 -- "Checks run in this order": 1 to 7
 abbrev pub recordChecks : List ℕ → List Check
 recordChecks bytes =
-    (headerCutShort bytes, 1) ∷ (wrongMark bytes, 2) ∷ bodyPlanChecks (chipIn bytes) (tableIn bytes) (bodyIn bytes)
+    (headerCutShort bytes, 1) ∷ (wrongMark bytes, 2) ∷ bodyPlanChecks (chipNumberIn bytes) (tableNumberIn bytes) (bodyIn bytes)
 
 -- "Writing a plan record .. checks the plan by 3, 4, 6, 7 and then 9"
 abbrev pub writeChecks : Plan → List ℕ → List Check
@@ -51,7 +51,7 @@ pub record TakesBody (chip table : ℕ) (bytes : List ℕ) (r : Found) : Type 0 
 
 -- what `records::read` promises: "The reader answers the plan and the bytes used". The bytes are only read, so they are what they were.
 pub record ReadsRecord (bytes : List ℕ) (r : Found) : Type 0 where
-  pub answer : tellsCount (r .answer) ≡ told (recordChecks bytes) (whenKnown (chipOf (chipIn bytes)) recordLength 0)
+  pub answer : tellsCount (r .answer) ≡ told (recordChecks bytes) (whenKnown (chipOf (chipNumberIn bytes)) recordLength 0)
   pub plan : r .plan ≡ cond (eqb (first (recordChecks bytes)) 0) (planIn bytes) noPlan
 
 -- what a call that writes a plan's record promises, by its own list of checks: "An output longer than the result keeps its tail", and a refused

@@ -31,11 +31,11 @@ abbrev pub encoded : Plan → List ℕ
 encoded plan = whenKnown (chipOf (plan .chip)) (λ chip. recordOf chip plan) []
 
 -- the chip's number, the table's number and the body in a record's bytes
-abbrev pub chipIn : List ℕ → ℕ
-chipIn bytes = getD bytes 2 0
+abbrev pub chipNumberIn : List ℕ → ℕ
+chipNumberIn bytes = getD bytes 2 0
 
-abbrev pub tableIn : List ℕ → ℕ
-tableIn bytes = getD bytes 3 0
+abbrev pub tableNumberIn : List ℕ → ℕ
+tableNumberIn bytes = getD bytes 3 0
 
 abbrev pub bodyIn : List ℕ → List ℕ
 bodyIn bytes = drop 4 bytes
@@ -50,7 +50,7 @@ planOf chip table bytes = whenKnown (chipOf chip) (λ c. decoded (shapeOf c tabl
 
 -- the plan in a record's bytes
 abbrev pub planIn : List ℕ → Plan
-planIn bytes = planOf (chipIn bytes) (tableIn bytes) (bodyIn bytes)
+planIn bytes = planOf (chipNumberIn bytes) (tableNumberIn bytes) (bodyIn bytes)
 
 -- "those of the other chip are zero in what is read": what comes back of a plan
 abbrev pub own : Plan → Plan

@@ -9,11 +9,10 @@ use borrow.Author.Tests.{not-false}
 use lib.ListN.{length, length-append}
 use Rattle.refusal.specs.Checks.{first}
 use Rattle.refusal.specs.declared.Count.the-variants as counted
-use Rattle.refusal.proofs.Passed.{Passed, all-passed, when-passed}
+use Rattle.refusal.proofs.Passed.{all-passed, when-passed}
 use Rattle.cards.specs.declared.types.Chip.{Chip}
 use Rattle.cards.specs.declared.types.Chip.the-variants.{Nct7802y, F75373s}
-use Rattle.cards.specs.declared.types.Named.{Named}
-use Rattle.cards.specs.declared.types.Named.the-variants.{Known, Unknown}
+use Rattle.cards.specs.declared.types.Named.the-variants.{Known}
 use Rattle.cards.specs.declared.types.Layout.{Layout}
 use Rattle.cards.specs.Sheets.{room}
 use Rattle.cards.specs.Cards.{sheetOf, chipOf, hasTable, tableOf, shapeOf}
@@ -23,7 +22,6 @@ use Rattle.curves.specs.Orders.{fulls}
 use Rattle.curves.specs.Planned.{fullOf}
 use Rattle.curves.specs.Values.{Sized}
 use Rattle.plans.specs.Plans.{plannedFor}
-use Rattle.plans.specs.Contracts.{planChecks}
 use Rattle.scripts.specs.Scripts.{writes, placements, scriptOf, scriptLength, scriptFor}
 use Rattle.scripts.specs.Contracts.{scriptChecks, Scripts}
 use Rattle.scripts.proofs.Bus.{bus-plain}

@@ -3,7 +3,7 @@
 use Prim.Native.Nat.{ℕ, zero, suc, _+_, _-_, _≤_, _<_}
 use native.Mathlib.Omega.{arith}
 use mathlib.Core.Path.{_≡_, refl, sym, ap, ap₂, subst, _∙_}
-use mathlib.Core.Bool.{Bool, true, false, So}
+use mathlib.Core.Bool.{Bool, true, false}
 use mathlib.Core.List.{List, [], _∷_, _++_}
 use borrow.Author.Tests.{ltb-true, ltb-false}
 use lib.Dec.{ltb}
@@ -12,9 +12,9 @@ use lib.Seq.{take-suc, take-all}
 use Rattle.cards.specs.declared.types.Chip.{Chip}
 use Rattle.cards.specs.declared.types.Masks.{Masks}
 use Rattle.cards.specs.declared.types.Register.{Register}
-use Rattle.cards.specs.Rows.{Table, positions, column, registerAt, masksIn}
-use Rattle.cards.specs.Sheets.{missing, registerIn}
-use Rattle.cards.specs.Cards.{sheetOf, cardOf, rowOf, hasTable, tableOf, shapeOf}
+use Rattle.cards.specs.Rows.{Table, masksIn, positions}
+use Rattle.cards.specs.Sheets.{missing}
+use Rattle.cards.specs.Cards.{rowOf, hasTable, tableOf, shapeOf}
 use Rattle.cards.proofs.Columns.{column-at}
 use Rattle.cards.proofs.Tables.{table-short, table-none, register-position, register-at}
 use Rattle.images.specs.Bytes.{storedAt, placed}
@@ -25,10 +25,9 @@ use Rattle.bodies.specs.Bodies.{body}
 use Rattle.plans.specs.Plans.{plannedFor}
 use Rattle.plans.proofs.Fits.{settings-long, speeds-long}
 use Rattle.scripts.specs.declared.making.Load.{Load}
-use Rattle.scripts.specs.declared.making.Write.{Write}
 use Rattle.scripts.specs.Scripts.{Pair, script, placements, scriptOf}
 use Rattle.scripts.specs.Plays.{laid, played}
-use Rattle.scripts.specs.Making.{writesOf, registerOf, writeAt, pairsOf, madeOf, Short, loadOf}
+use Rattle.scripts.specs.Making.{writesOf, writeAt, pairsOf, madeOf, Short, loadOf, placeAt, byteAt}
 use Rattle.scripts.proofs.Bus.{bus-plain, bus-cut, laid-append}
 use Rattle.scripts.proofs.Pairs.{nothing, script-length, raised-at, body-at}
 
@@ -68,7 +67,7 @@ module _ (chip : Chip) (plan : Plan) where
   -- of a table that the plan fills
   module _ (es : s ≡ length (plannedFor chip plan .settings)) (ev : v ≡ length (plannedFor chip plan .speeds)) where
     at-place : (k : ℕ) → k < v + (s + v) → (writeAt load k .register .position, writeAt load k .byte) ≡ getD pairs k nothing
-    unfolding writeAt
+    unfolding placeAt byteAt
     at-place k h = by-side (ltb k v) refl
       where
         by-side : (raised : Bool) → ltb k v ≡ raised → (writeAt load k .register .position, writeAt load k .byte) ≡ getD pairs k nothing
@@ -104,19 +103,24 @@ module _ (chip : Chip) (plan : Plan) where
       by-table true t = filled (settings-long chip plan sized t) (speeds-long chip plan sized t)
       by-table false t = empty (table-none chip (plan .table) t)
 
-  -- each register of a write has the masks of its position
-  masked : (k : ℕ) → k < writesOf load → writeAt load k .register .masks ≡ masksIn (rowOf chip (writeAt load k .register .position))
-  unfolding writeAt rowOf
-  masked k h = by-side (ltb k v) refl
+  -- a place is one of the table's registers
+  inside : (k : ℕ) → k < writesOf load → placeAt load k < length (positions table)
+  unfolding placeAt
+  inside k h = by-side (ltb k v) refl
     where
-      known : (j : ℕ) → j < s + v → registerOf load j .masks ≡ masksIn (rowOf chip (registerOf load j .position))
-      known j l =
-          let at = register-at chip (plan .table) j (omega (arith, length-append (table .settings) (table .speeds))) in
-          ap (λ (r : Register). r .masks) at ∙ sym (ap (λ (r : Register). masksIn (rowOf chip (r .position))) at)
+      long : length (positions table) ≡ s + v
+      long = length-append (table .settings) (table .speeds)
 
-      by-side : (raised : Bool) → ltb k v ≡ raised → writeAt load k .register .masks ≡ masksIn (rowOf chip (writeAt load k .register .position))
-      by-side true t = rw t (known (s + k) (omega (arith, ltb-true k v t)))
-      by-side false t = rw t (known (k - v) (omega (arith, ltb-false k v t)))
+      by-side : (raised : Bool) → ltb k v ≡ raised → placeAt load k < length (positions table)
+      by-side true t = rw t (omega (arith, ltb-true k v t, long))
+      by-side false t = rw t (omega (arith, ltb-false k v t, long))
+
+  -- which has the masks of its position
+  masked : (k : ℕ) → k < writesOf load → writeAt load k .register .masks ≡ masksIn (rowOf chip (writeAt load k .register .position))
+  unfolding rowOf
+  masked k h =
+      let at = register-at chip (plan .table) (placeAt load k) (inside k h) in
+      ap (λ (r : Register). r .masks) at ∙ sym (ap (λ (r : Register). masksIn (rowOf chip (r .position))) at)
 
   -- so what is made on an image is what the writes by position do
   made-laid : (n : ℕ) → n ≤ writesOf load → (image : List ℕ) → madeOf load n image ≡ laid chip (pairsOf load n) image

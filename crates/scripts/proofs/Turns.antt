@@ -4,7 +4,7 @@ use Prim.Native.Nat.{ℕ, zero, suc, _+_, _-_, _*_, _≤_, _<_}
 use native.Mathlib.Numerals.{add-one}
 use native.Mathlib.Omega.{arith}
 use mathlib.Core.Path.{_≡_, refl, sym, ap, ap₂, _∙_}
-use mathlib.Core.Bool.{Bool, true, false, cond}
+use mathlib.Core.Bool.{Bool, true, false}
 use mathlib.Core.List.{List, [], _∷_, _++_, append-assoc}
 use borrow.Author.Tests.{lt-ltb, le-ltb}
 use lib.Dec.{ltb}
@@ -20,7 +20,7 @@ use Rattle.images.proofs.Laws.{storedAt-length}
 use Rattle.scripts.specs.declared.making.Load.{Load}
 use Rattle.scripts.specs.declared.making.Write.{Write}
 use Rattle.scripts.specs.Scripts.{Pair, flat}
-use Rattle.scripts.specs.Making.{writesOf, registerOf, writeAt, pairsOf, madeOf, Puts}
+use Rattle.scripts.specs.Making.{writesOf, writeAt, pairsOf, madeOf, Puts, placeAt}
 
 flat-append : (xs ys : List Pair) → flat (xs ++ ys) ≡ flat xs ++ flat ys
 flat-append [] ys = refl
@@ -39,12 +39,7 @@ pairs-length l (suc n) =
 
 -- a register's position is an address
 pub write-address : (l : Load) (k : ℕ) → writeAt l k .register .position < 256
-unfolding writeAt
-write-address l k = by-side (ltb k (l .speeds)) refl
-  where
-    by-side : (raised : Bool) → ltb k (l .speeds) ≡ raised → writeAt l k .register .position < 256
-    by-side true t = rw t (register-byte (l .chip) (l .table) (l .settings + k))
-    by-side false t = rw t (register-byte (l .chip) (l .table) (k - l .speeds))
+write-address l k = register-byte (l .chip) (l .table) (placeAt l k)
 
 -- the first k pairs stand in the buffer, which has room for all, and the rest of it is as it was
 pub record Written (l : Load) (old out : List ℕ) (at k : ℕ) : Type 0 where

@@ -10,7 +10,6 @@ use Rattle.refusal.specs.declared.Count.{Count}
 use Rattle.refusal.specs.Answers.{tellsCount}
 use Rattle.refusal.specs.Checks.{told, left, roomChecks}
 use Rattle.cards.specs.declared.types.Chip.{Chip}
-use Rattle.cards.specs.declared.types.Register.{Register}
 use Rattle.cards.specs.Rows.{column}
 use Rattle.cards.specs.Sheets.{registerIn}
 use Rattle.cards.specs.Cards.{sheetOf, tableOf, shapeOf}
@@ -27,16 +26,15 @@ use Rattle.scripts.specs.Scripts.{Pair, flat}
 abbrev pub writesOf : Load → ℕ
 writesOf l = l .speeds + (l .settings + l .speeds)
 
--- the register of a table
-abbrev pub registerOf : Load → ℕ → Register
-registerOf l k = registerIn (sheetOf (l .chip)) (l .table) k
+-- the k-th write: which of the table's registers it goes to, with what byte
+unfoldable pub placeAt : Load → ℕ → ℕ
+placeAt l k = cond (ltb k (l .speeds)) (l .settings + k) (k - l .speeds)
 
--- the write of a place
-unfoldable pub writeAt : Load → ℕ → Write
-writeAt l k =
-    cond (ltb k (l .speeds))
-    (record { register = registerOf l (l .settings + k); byte = l .full })
-    (record { register = registerOf l (k - l .speeds); byte = getD (l .body) (k - l .speeds) 0 })
+unfoldable pub byteAt : Load → ℕ → ℕ
+byteAt l k = cond (ltb k (l .speeds)) (l .full) (getD (l .body) (k - l .speeds) 0)
+
+abbrev pub writeAt : Load → ℕ → Write
+writeAt l k = record { register = registerIn (sheetOf (l .chip)) (l .table) (placeAt l k); byte = byteAt l k }
 
 -- the first n pairs of position and byte
 abbrev pub pairsOf : Load → ℕ → List Pair

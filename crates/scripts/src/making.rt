@@ -5,7 +5,7 @@ use cards::Register;
 use curves::Plan;
 ghost use Prim.Native.Nat.{_<_};
 ghost use mathlib.Core.Path.{_≡_};
-ghost use Rattle.scripts.specs.Making.{Short, writesOf, writeAt, loadOf};
+ghost use Rattle.scripts.specs.Making.{Short, writesOf, placeAt, byteAt, writeAt, loadOf};
 
 // A fan table, by its chip and number, and what goes there: how many settings and speeds it has, the full byte, and the body.
 pub struct Load {
@@ -32,24 +32,40 @@ impl Load {
         self.speeds + (self.settings + self.speeds)
     }
 
-    // The write of a place.
+    // The table's register that the k-th write goes to, by its place: the raised speeds, then all of them.
+    fn place(self, k: usize) -> usize
+        requires { ⌜ Short self ⌝ }
+        ensures { λ r. ⌜ r ≡ placeAt self k ⌝ }
+    {
+        if k < self.speeds {
+            return self.settings + k;
+        }
+        k - self.speeds
+    }
+
+    // The byte of the k-th write.
+    fn byte(self, k: usize) -> u8
+        requires { ⌜ Short self ⌝ }
+        requires { ⌜ k < writesOf self ⌝ }
+        ensures { λ r. ⌜ r ≡ byteAt self k ⌝ }
+    {
+        if k < self.speeds {
+            return self.full;
+        }
+        let body = self.body;
+        body[k - self.speeds]
+    }
+
+    // The k-th write.
     pub(crate) fn write(self, k: usize) -> Write
         requires { ⌜ Short self ⌝ }
         requires { ⌜ k < writesOf self ⌝ }
         ensures { λ r. ⌜ r ≡ writeAt self k ⌝ }
     {
         let chip = self.chip;
-        if k < self.speeds {
-            return Write {
-                register: cards::register_of(chip, self.table, self.settings + k),
-                byte: self.full,
-            };
-        }
-        let j = k - self.speeds;
-        let body = self.body;
         Write {
-            register: cards::register_of(chip, self.table, j),
-            byte: body[j],
+            register: cards::register_of(chip, self.table, self.place(k)),
+            byte: self.byte(k),
         }
     }
 }

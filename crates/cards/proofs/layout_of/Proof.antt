@@ -1,7 +1,6 @@
 -- `cards::layout_of` meets its contract: the answer of `table_of` tells the layout, and where there is no table none of its registers.
 -- Assumes nothing.
 use mathlib.Core.Path.{sym, ap}
-use Rattle.cards.specs.Rows.{Table}
 use Rattle.cards.specs.Sheets.{layout}
 use Rattle.cards.specs.Cards.{cardOf}
 use Rattle.cards.proofs.Tables.{table-found, table-missed, table-none}

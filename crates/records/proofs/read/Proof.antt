@@ -11,7 +11,7 @@ use Rattle.refusal.specs.Answers.{tells}
 use Rattle.curves.specs.declared.Plan.{Plan}
 use Rattle.plans.specs.Contracts.{planChecks}
 use Rattle.plans.proofs.Registers.{to-the-end}
-use Rattle.records.specs.Records.{chipIn, tableIn, bodyIn}
+use Rattle.records.specs.Records.{chipNumberIn, tableNumberIn, bodyIn}
 use Rattle.records.specs.Contracts.{recordChecks, TakesBody}
 use Rattle.records.proofs.Answers.{
   Taken,
@@ -42,7 +42,7 @@ marked c =
       mark = mark-wrong (bytes c) ∙ mark c .if2 .left;
     }
 
-from : (c : tie.After-plan-from) → TakesBody (chipIn (bytes c)) (tableIn (bytes c)) (bodyIn (bytes c)) (c .plan-from .result)
+from : (c : tie.After-plan-from) → TakesBody (chipNumberIn (bytes c)) (tableNumberIn (bytes c)) (bodyIn (bytes c)) (c .plan-from .result)
 from c = rw (to-the-end (bytes c) 4) at (c .plan-from .ensures)
 
 -- a body that is taken
@@ -54,7 +54,7 @@ used c = c .before .before .before .answer .given .0 .0
 
 taken : (c : tie.After-judge)
     → let all = bytes (plan-from c) in
-    Taken (chipIn all) (tableIn all) (bodyIn all) (used c) (plan-from c .plan-from .result .plan)
+    Taken (chipNumberIn all) (tableNumberIn all) (bodyIn all) (used c) (plan-from c .plan-from .result .plan)
 taken c = plan-taken _ _ _ _ _ (from (plan-from c)) (c .before .before .before .answer .given .1)
 
 abbrev complete : (c : tie.After-judge) → Complete (bytes (plan-from c))

@@ -3,7 +3,6 @@
 use Prim.Native.Nat.{_-_}
 use mathlib.Core.Path.{sym, _∙_}
 use borrow.Author.Tests.{not-true, not-false}
-use lib.ListN.{length}
 use Rattle.curves.specs.Orders.{related}
 use Rattle.curves.proofs.Walks.{Chain, chain-start, chain-next, chain-broken, chain-whole}
 use borrow.Author.Needs.{needs}

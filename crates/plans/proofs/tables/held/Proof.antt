@@ -1,6 +1,6 @@
 -- `plans::tables::held` meets its contract: the places passed hold the writable bits of their registers.
 -- Assumes nothing.
-use Prim.Native.Nat.{ℕ, _-_}
+use Prim.Native.Nat.{_-_}
 use mathlib.Core.Path.{refl, ap, _∙_}
 use Rattle.cards.specs.declared.types.Register.{Register}
 use Rattle.cards.specs.Rows.{column}

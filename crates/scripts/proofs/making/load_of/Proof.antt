@@ -1,8 +1,6 @@
 -- `making::load_of` meets its contract: each part is as the table's layout has it.
 -- Assumes nothing.
-use Prim.Native.Nat.{ℕ}
-use mathlib.Core.Path.{_≡_, ap, _∙_}
-use mathlib.Core.List.{List}
+use mathlib.Core.Path.{ap, _∙_}
 use lib.ListN.{getD}
 use Rattle.cards.specs.declared.types.Layout.{Layout}
 use Rattle.cards.specs.Rows.{column}

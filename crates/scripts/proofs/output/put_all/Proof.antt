@@ -36,7 +36,7 @@ put-requires : tie.Need-put-requires Inv-loop μ-loop
 put-requires c κs =
     let wrote = c .before in
     let turn = wrote .before in (
-      subst (λ (w : Write). w .register .position < 256) (sym (wrote .write .ensures)) (write-address _ _),
+      subst (λ (w : Write). w .register .position < 256) (sym (wrote .write .ensures)) (write-address (start .args .load) (turn .before .loop .k)),
       next-inside (turn .before .loop .inv) (omega (arith, turn .loop-test .taken, turn .before .before .before .length .ensures)),
     )
 
