@@ -27,7 +27,7 @@ use Rattle.readings.specs.Contracts.{stepsChecks, bytesChecks}
 use Rattle.watch.specs.declared.Watch.{Watch}
 use Rattle.watch.specs.Alarm as alarm
 use Rattle.watch.specs.Contracts.{sampleChecks}
-use Rattle.records.specs.Records.{recordLength, chipIn, planIn, noPlan}
+use Rattle.records.specs.Records.{recordLength, chipNumberIn, planIn, noPlan}
 use Rattle.records.specs.Contracts.{recordChecks}
 use Rattle.translation.specs.Words.{decimal}
 use Rattle.translation.specs.Text.{textOf, endLine}
@@ -87,7 +87,7 @@ answer (sample behaviour facts n) =
 answer (acknowledge behaviour facts) = ofWatch (0, alarm.acknowledged (watchOf behaviour facts))
 answer (run behaviour facts ns) = ofWatch (0, alarm.run (watchOf behaviour facts) (alarm.recorded (pos 80) (pos 75) ns))
 answer (readRecord bs) =
-    ofRecord (told (recordChecks bs) (whenKnown (chipOf (chipIn bs)) recordLength 0))
+    ofRecord (told (recordChecks bs) (whenKnown (chipOf (chipNumberIn bs)) recordLength 0))
     (cond (eqb (first (recordChecks bs)) 0) (planIn bs) noPlan)
 answer (askedOfImage chip table image t) =
     packs (told (askImageChecks chip table image) (whenKnown (chipOf chip) (λ c. asks (shapeOf c table) (held c table image) t) 0))

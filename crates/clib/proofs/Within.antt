@@ -1,13 +1,13 @@
 -- What a call answers beside its refusal number is small: no record has more than 18 bytes, no script more than 28 writes, no text more than 40,979 bytes.
 -- Assumes nothing.
-use Prim.Native.Nat.{ℕ, zero, suc, _+_, _-_, _≤_, _<_, _^_, min}
+use Prim.Native.Nat.{ℕ, _≤_, _<_, _^_, min}
 use native.Mathlib.Nat.{min-le-right}
 use native.Mathlib.Omega.{arith}
 use mathlib.Core.Path.{_≡_, ap}
 use mathlib.Core.Bool.{Bool, true, false, cond}
 use mathlib.Core.List.{List, [], _∷_, _++_}
 use lib.Dec.{eqb}
-use lib.ListN.{length, getD}
+use lib.ListN.{length}
 use Rattle.refusal.specs.declared.Count.{Count}
 use Rattle.refusal.specs.Answers.{tellsCount}
 use Rattle.refusal.specs.Checks.{Check, first, told, roomChecks}
@@ -17,7 +17,7 @@ use Rattle.cards.specs.declared.types.Named.the-variants.{Known, Unknown}
 use Rattle.cards.specs.Cards.{chipOf, whenKnown}
 use Rattle.curves.specs.declared.Plan.{Plan}
 use Rattle.curves.specs.Values.{Sized}
-use Rattle.records.specs.Records.{encoded, recordLength, chipIn}
+use Rattle.records.specs.Records.{encoded, recordLength, chipNumberIn}
 use Rattle.records.specs.Contracts.{writeChecks, WritesRecord}
 use Rattle.records.proofs.Encoding.{length-short, record-short}
 use Rattle.scripts.specs.Scripts.{scriptOf, scriptFor}
@@ -43,8 +43,8 @@ script-within plan = by-name (chipOf (plan .chip))
     by-name (Known chip) = script-short chip plan
     by-name Unknown = omega arith
 
-pub used-within : (bytes : List ℕ) → whenKnown (chipOf (chipIn bytes)) recordLength 0 < 2 ^ 16
-used-within bytes = by-name (chipOf (chipIn bytes))
+pub used-within : (bytes : List ℕ) → whenKnown (chipOf (chipNumberIn bytes)) recordLength 0 < 2 ^ 16
+used-within bytes = by-name (chipOf (chipNumberIn bytes))
   where
     by-name : (named : Named) → whenKnown named recordLength 0 < 2 ^ 16
     by-name (Known chip) = omega (arith, length-short chip)

@@ -143,37 +143,16 @@ module _ (chip : Chip) (plan : Plan) (typed : Typed plan) (has : So (hasTable ch
       (λ k h. mask-at (length settings + k) (omega arith) ∙ ap (λ (p : ℕ). rowOf chip p .writable) (in-speeds k))
       (λ k h. ap (λ (n : ℕ). getD (body (plannedFor chip plan)) (n + k) 0) (settings-long chip plan (typed .sized) has) ∙ getD-append-add wanted asked k 0))
 
-  -- what the tests of a plan say, each by itself and both together, once its table's layout is told
+  -- what the tests of a plan say, once its table's layout is told
   module _ (l : Layout) (e : l ≡ layoutOf chip (plan .table)) where
-    pub temperatures-fail : temperaturesInOrder (l .shape) plan ≡ false → temperaturesPass chip plan ≡ false
+    pub temperatures-pass : (temperaturesInOrder (l .shape) plan && planFits chip plan l 0 (l .settings)) ≡ temperaturesPass chip plan
     unfolding temperaturesPass
-    temperatures-fail out =
-        ap (λ (b : Bool). b && fits chip settings wanted) (ap (λ (f : Layout). temperaturesInOrder (f .shape) plan) (sym e) ∙ out)
+    temperatures-pass =
+        ap (λ (k : Layout). temperaturesInOrder (k .shape) plan && planFits chip plan k 0 (k .settings)) e
+        ∙ ap (λ (b : Bool). temperaturesInOrder (shapeOf chip (plan .table)) plan && b) settings-fit
 
-    pub temperatures-pass : {fitting : Bool} → temperaturesInOrder (l .shape) plan ≡ true → planFits chip plan l 0 (l .settings - 0) ≡ fitting
-        → temperaturesPass chip plan ≡ fitting
-    unfolding temperaturesPass
-    temperatures-pass order f =
-        let all : length settings - 0 ≡ length settings = omega arith in
-        ap₂ _&&_ (ap (λ (k : Layout). temperaturesInOrder (k .shape) plan) (sym e) ∙ order)
-        (sym settings-fit
-        ∙ ap (planFits chip plan (layoutOf chip (plan .table)) 0) (sym all)
-        ∙ ap (λ (k : Layout). planFits chip plan k 0 (k .settings - 0)) (sym e)
-        ∙ f)
-
-    pub speeds-fail : speedsInOrder (l .shape) plan ≡ false → speedsPass chip plan ≡ false
+    pub speeds-pass : (speedsInOrder (l .shape) plan && planFits chip plan l (l .settings) (l .speeds)) ≡ speedsPass chip plan
     unfolding speedsPass
-    speeds-fail out =
-        ap (λ (b : Bool). b && fits chip speeds asked) (ap (λ (f : Layout). speedsInOrder (f .shape) plan) (sym e) ∙ out)
-
-    pub speeds-pass : {fitting : Bool} → speedsInOrder (l .shape) plan ≡ true
-        → planFits chip plan l (l .settings) (l .settings + l .speeds - l .settings) ≡ fitting
-        → speedsPass chip plan ≡ fitting
-    unfolding speedsPass
-    speeds-pass order f =
-        let some : length settings + length speeds - length settings ≡ length speeds = omega arith in
-        ap₂ _&&_ (ap (λ (k : Layout). speedsInOrder (k .shape) plan) (sym e) ∙ order)
-        (sym speeds-fit
-        ∙ ap (planFits chip plan (layoutOf chip (plan .table)) (length settings)) (sym some)
-        ∙ ap (λ (k : Layout). planFits chip plan k (k .settings) (k .settings + k .speeds - k .settings)) (sym e)
-        ∙ f)
+    speeds-pass =
+        ap (λ (k : Layout). speedsInOrder (k .shape) plan && planFits chip plan k (k .settings) (k .speeds)) e
+        ∙ ap (λ (b : Bool). speedsInOrder (shapeOf chip (plan .table)) plan && b) speeds-fit

@@ -14,6 +14,7 @@ use Rattle.cards.specs.Cards.{sheetOf}
 use Rattle.curves.specs.declared.Plan.{Plan}
 use Rattle.curves.specs.Planned.{planned}
 use Rattle.bodies.specs.Bodies.{body}
+use Rattle.plans.specs.declared.tables.Fitting.{Fitting}
 
 -- the writable bits of a register
 abbrev pub worthAt : Register → List ℕ → ℕ
@@ -25,7 +26,11 @@ fitFrom register values place zero = true
 fitFrom register values place (suc n) =
     eqb (bitAnd (getD values place 0) (register place .masks .writable)) (getD values place 0) && fitFrom register values (suc place) n
 
--- .. those of a plan, by its table's layout
+-- .. and so a plan's settings, and its speeds, by its table's layout
 abbrev pub planFits : Chip → Plan → Layout → ℕ → ℕ → Bool
 planFits chip plan layout place n =
     cond (layout .whole) true (fitFrom (registerIn (sheetOf chip) (plan .table)) (body (planned (layout .shape) plan)) place n)
+
+abbrev pub fittingOf : Chip → Plan → Layout → Fitting
+fittingOf chip plan layout =
+    record { settings = planFits chip plan layout 0 (layout .settings); speeds = planFits chip plan layout (layout .settings) (layout .speeds) }

@@ -26,17 +26,11 @@ fn accept_known(chip: Chip, plan: Plan) -> Admitted
         return Admitted::Refused(Refusal::NoSuchTable);
     };
     let shape = layout.shape;
-    let settings = layout.settings;
-    if !curves::temperatures_in_order(shape, plan) {
+    let fitting = tables::fit(chip, plan, layout);
+    if !(curves::temperatures_in_order(shape, plan) & fitting.settings) {
         return Admitted::Refused(Refusal::TemperaturesOutOfOrder);
     }
-    if !tables::fit(chip, plan, layout, 0, settings) {
-        return Admitted::Refused(Refusal::TemperaturesOutOfOrder);
-    }
-    if !curves::speeds_in_order(shape, plan) {
-        return Admitted::Refused(Refusal::SpeedsOutOfOrder);
-    }
-    if !tables::fit(chip, plan, layout, settings, settings + layout.speeds) {
+    if !(curves::speeds_in_order(shape, plan) & fitting.speeds) {
         return Admitted::Refused(Refusal::SpeedsOutOfOrder);
     }
     Admitted::Known(chip)

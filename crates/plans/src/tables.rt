@@ -4,12 +4,12 @@ use cards::Chip;
 use cards::Layout;
 use cards::Register;
 use curves::Plan;
-ghost use Prim.Native.Nat.{_-_, _≤_};
+ghost use Prim.Native.Nat.{_+_, _-_, _≤_};
 ghost use mathlib.Core.Path.{_≡_};
 ghost use Rattle.cards.specs.Rows.{column};
 ghost use Rattle.cards.specs.Sheets.{registerIn};
 ghost use Rattle.cards.specs.Cards.{sheetOf};
-ghost use Rattle.plans.specs.Parts.{worthAt, fitFrom, planFits};
+ghost use Rattle.plans.specs.Parts.{worthAt, fitFrom, fittingOf};
 
 // A register's writable bits in the image, and 0 behind the image's end.
 fn worth(image: &[u8], register: Register) -> u8
@@ -51,15 +51,29 @@ fn each_fits(chip: Chip, table: u8, body: [u8; LONGEST], from: usize, to: usize)
     true
 }
 
-// The same of a plan's values. A table all of whose bits are writable holds every byte.
-pub(crate) fn fit(chip: Chip, plan: Plan, layout: Layout, from: usize, to: usize) -> bool
-    requires { ⌜ to ≤ 14 ⌝ }
-    ensures { λ r. ⌜ r ≡ planFits chip plan layout from (to - from) ⌝ }
+// Whether a table's registers can hold a plan's settings, and its speeds.
+pub(crate) struct Fitting {
+    pub settings: bool,
+    pub speeds: bool,
+}
+
+// A table all of whose bits are writable holds every byte.
+pub(crate) fn fit(chip: Chip, plan: Plan, layout: Layout) -> Fitting
+    requires { ⌜ layout .settings + layout .speeds ≤ 14 ⌝ }
+    ensures { λ r. ⌜ r ≡ fittingOf chip plan layout ⌝ }
 {
     if layout.whole {
-        return true;
+        return Fitting {
+            settings: true,
+            speeds: true,
+        };
     }
     let shape = layout.shape;
     let body = bodies::body_of(shape, plan);
-    each_fits(chip, plan.table, body, from, to)
+    let table = plan.table;
+    let settings = layout.settings;
+    Fitting {
+        settings: each_fits(chip, table, body, 0, settings),
+        speeds: each_fits(chip, table, body, settings, settings + layout.speeds),
+    }
 }

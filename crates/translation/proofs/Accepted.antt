@@ -17,7 +17,7 @@ use Rattle.curves.specs.declared.Plan.{Plan}
 use Rattle.bodies.specs.Bodies.{decoded}
 use Rattle.bodies.proofs.Laws.{decoded-chip, decoded-table, decoded-sized}
 use Rattle.plans.specs.Contracts.{planChecks}
-use Rattle.records.specs.Records.{recordLength, chipIn, tableIn, bodyIn, planIn}
+use Rattle.records.specs.Records.{recordLength, chipNumberIn, tableNumberIn, bodyIn, planIn}
 use Rattle.records.proofs.Answers.{Complete, recordPlan, complete-judged}
 use Rattle.records.proofs.Encoding.{body-of-shape}
 use Rattle.records.proofs.RoundTrip.{whole-record}
@@ -50,34 +50,34 @@ module _ (bytes : List ℕ) (C : Complete bytes) (none : first (planChecks (reco
   chip = C .whole .chip
 
   abbrev shape : Shape
-  shape = shapeOf chip (tableIn bytes)
+  shape = shapeOf chip (tableNumberIn bytes)
 
   abbrev plan : Plan
   plan = recordPlan bytes C
 
-  numbered : plan .chip ≡ chipIn bytes
-  numbered = decoded-chip shape (chipIn bytes) (tableIn bytes) (bodyIn bytes)
+  numbered : plan .chip ≡ chipNumberIn bytes
+  numbered = decoded-chip shape (chipNumberIn bytes) (tableNumberIn bytes) (bodyIn bytes)
 
-  tabled : plan .table ≡ tableIn bytes
-  tabled = decoded-table shape (chipIn bytes) (tableIn bytes) (bodyIn bytes)
+  tabled : plan .table ≡ tableNumberIn bytes
+  tabled = decoded-table shape (chipNumberIn bytes) (tableNumberIn bytes) (bodyIn bytes)
 
   writes : length (scriptFor plan) ≡ room shape .1 + (room shape .0 + room shape .1)
   writes =
       ap (λ (n : ℕ). length (whenKnown (chipOf n) (λ c. scriptOf c plan) [])) numbered
       ∙ rw (C .whole .named)
       (subst (λ (t : ℕ). length (scriptOf chip plan) ≡ room (shapeOf chip t) .1 + (room (shapeOf chip t) .0 + room (shapeOf chip t) .1)) tabled
-      (script-of-shape chip plan (decoded-sized shape (chipIn bytes) (tableIn bytes) (bodyIn bytes)) (rw tabled (C .whole .has))))
+      (script-of-shape chip plan (decoded-sized shape (chipNumberIn bytes) (tableNumberIn bytes) (bodyIn bytes)) (rw tabled (C .whole .has))))
 
   complete : Accepted bytes (recordLength chip) plan
   complete =
-      let long = body-of-shape chip (tableIn bytes) (C .whole .has) in
+      let long = body-of-shape chip (tableNumberIn bytes) (C .whole .has) in
       let t = takes shape in
       record {
         whole = omega (arith, length-drop 4 bytes, C .whole .long, C .marked .long);
         least = omega (arith, t .least, long);
         accepts = record { checks = none; writes = omega (arith, writes, t .writes) };
-        chip = omega (arith, numbered, chip-number (chipIn bytes) chip (C .whole .named), chip-digit chip);
-        table = omega (arith, tabled, table-digits chip (tableIn bytes) (C .whole .has));
+        chip = omega (arith, numbered, chip-number (chipNumberIn bytes) chip (C .whole .named), chip-digit chip);
+        table = omega (arith, tabled, table-digits chip (tableNumberIn bytes) (C .whole .has));
         short = omega (arith, writes, t .short, long);
       }
 

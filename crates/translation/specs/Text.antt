@@ -9,7 +9,7 @@ use lib.ListN.{length, drop}
 use Rattle.refusal.specs.Checks.{first}
 use Rattle.cards.specs.Cards.{chipOf, whenKnown}
 use Rattle.curves.specs.declared.Plan.{Plan}
-use Rattle.records.specs.Records.{chipIn, planIn, recordLength}
+use Rattle.records.specs.Records.{chipNumberIn, planIn, recordLength}
 use Rattle.records.specs.Contracts.{recordChecks}
 use Rattle.scripts.specs.Scripts.{Pair, scriptFor}
 use Rattle.translation.specs.Words.{ascii, hexadecimal, decimal}
@@ -58,7 +58,7 @@ refusalIn bytes = first (recordChecks bytes)
 
 -- .. and "the bytes used, 13 or 18"
 unfoldable pub usedIn : List ℕ → ℕ
-usedIn bytes = whenKnown (chipOf (chipIn bytes)) recordLength 0
+usedIn bytes = whenKnown (chipOf (chipNumberIn bytes)) recordLength 0
 
 -- The text for the bytes that are left behind `plans` plans. An accepted record uses some of them, so a turn for each byte is enough.
 abbrev pub textFrom : ℕ → ℕ → List ℕ → List ℕ

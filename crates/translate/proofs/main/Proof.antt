@@ -3,7 +3,6 @@
 use Rattle.translate.specs.Inputs.{Holds}
 use Rattle.translate.specs.declared.Input.{Input}
 use lib.Seq.{length-take-le}
-use lib.ListN.{length}
 use mathlib.Core.Path.{sym, subst}
 use borrow.Author.Needs.{needs}
 use Rattle.translate.proofs.main.Statement.{statement}

@@ -35,7 +35,8 @@ write-requires c κs =
 put-requires : tie.Need-put-requires Inv-loop μ-loop
 put-requires c κs =
     let wrote = c .before in
-    let turn = wrote .before in (
+    let turn = wrote .before in
+    let start = turn .before .before .before .before .before in (
       subst (λ (w : Write). w .register .position < 256) (sym (wrote .write .ensures)) (write-address (start .args .load) (turn .before .loop .k)),
       next-inside (turn .before .loop .inv) (omega (arith, turn .loop-test .taken, turn .before .before .before .length .ensures)),
     )

@@ -15,7 +15,7 @@ returns c = rw (lt-ltb _ _ (c .before .if1 .taken))
 
 returns-2 : tie.Need-returns-2
 unfolding placeAt
-returns-2 c = rw (le-ltb _ _ (c .if1 .left))
+returns-2 c = rw (le-ltb _ _ (c .before .if1 .left))
 
 pub place-spec : {M : Type 1} → statement M
 place-spec = tie.close (tie.spec add-result returns returns-2)
