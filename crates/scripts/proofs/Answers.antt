@@ -25,7 +25,7 @@ use Rattle.scripts.specs.declared.making.Load.{Load}
 use Rattle.scripts.specs.Scripts.{Pair, flat, scriptOf, scriptFor}
 use Rattle.scripts.specs.Plays.{played}
 use Rattle.scripts.specs.Contracts.{scriptChecks, Scripts, Makes}
-use Rattle.scripts.specs.Making.{writesOf, pairsOf, madeOf, loadOf, Puts}
+use Rattle.scripts.specs.Making.{writesOf, pairsOf, madeOf, loadOf, bytesOf, Puts}
 use Rattle.scripts.proofs.Turns.{pairs-length}
 use Rattle.scripts.proofs.Prepared.{load-writes, load-makes}
 
@@ -50,17 +50,18 @@ module _ (plan : Plan) (out : List ℕ) where
       let all = still-refused r (planChecks plan) (roomChecks (2 * length pairs) out) e in
       record { answer = told-refused r (scriptChecks plan out) (length pairs) all; bytes = when-refused r _ out all }
 
-  pub script-put : {l : Load} {new : List ℕ} {r : Count} → first (planChecks plan) ≡ 0 → pairsOf l (writesOf l) ≡ pairs → Puts l out r new
+  pub script-put : {l : Load} {bytes new : List ℕ} {r : Count} → first (planChecks plan) ≡ 0 → pairsOf l bytes (writesOf l) ≡ pairs
+      → Puts l bytes out r new
       → Scripts plan out r new
-  script-put {l} {new} {r} e whole p =
-      let writes : writesOf l ≡ length pairs = sym (pairs-length l (writesOf l)) ∙ ap length whole in
+  script-put {l} {bytes} {new} {r} e whole p =
+      let writes : writesOf l ≡ length pairs = sym (pairs-length l bytes (writesOf l)) ∙ ap length whole in
       let checks : first (roomChecks (2 * writesOf l) out) ≡ first (scriptChecks plan out) =
       ap (λ (n : ℕ). first (roomChecks (2 * n) out)) writes ∙ sym (first-passed (planChecks plan) (roomChecks (2 * length pairs) out) refl e) in
       record {
         answer = p .answer ∙ ap₂ (λ (n w : ℕ). (n, cond (eqb n 0) w 0)) checks writes;
         bytes =
-            p .bytes
-            ∙ ap₂ (λ (n w : ℕ). cond (eqb n 0) (flat (pairsOf l (writesOf l)) ++ drop (2 * w) out) out) checks writes
+            p .pairs
+            ∙ ap₂ (λ (n w : ℕ). cond (eqb n 0) (flat (pairsOf l bytes (writesOf l)) ++ drop (2 * w) out) out) checks writes
             ∙ ap (λ (ws : List Pair). left (scriptChecks plan out) (flat ws ++ drop (2 * length pairs) out) out) whole;
       }
 
@@ -76,7 +77,7 @@ take-least count ws = by-size (leb count (length ws)) refl
 
 -- as many writes as are asked for, or all
 pub made-script : (chip : Chip) (plan : Plan) (count : ℕ) {n w : ℕ} {old new : List ℕ} → Sized plan → w ≡ writesOf (loadOf chip plan) → n ≡ min count w
-    → new ≡ madeOf (loadOf chip plan) n old → Makes chip plan count old n new
+    → new ≡ madeOf (loadOf chip plan) (bytesOf chip plan) n old → Makes chip plan count old n new
 made-script chip plan count {n} {w} {old} sized e q m =
     let all : n ≡ min count (length (scriptOf chip plan)) = q ∙ ap (min count) (e ∙ load-writes chip plan sized) in
     let some : n ≤ writesOf (loadOf chip plan) = rw (q ∙ ap (min count) e) (min-le-right count (writesOf (loadOf chip plan))) in

@@ -27,7 +27,7 @@ use Rattle.plans.proofs.Fits.{settings-long, speeds-long}
 use Rattle.scripts.specs.declared.making.Load.{Load}
 use Rattle.scripts.specs.Scripts.{Pair, script, placements, scriptOf}
 use Rattle.scripts.specs.Plays.{laid, played}
-use Rattle.scripts.specs.Making.{writesOf, writeAt, pairsOf, madeOf, Short, loadOf, placeAt, byteAt}
+use Rattle.scripts.specs.Making.{writesOf, writeAt, pairsOf, madeOf, Short, loadOf, placeAt, byteAt, bytesOf}
 use Rattle.scripts.proofs.Bus.{bus-plain, bus-cut, laid-append}
 use Rattle.scripts.proofs.Pairs.{nothing, script-length, raised-at, body-at}
 
@@ -38,19 +38,22 @@ load-short chip plan =
     record { registers = omega (arith, table-short chip (plan .table), length-append (table .settings) (table .speeds)) }
 
 -- a load gives these pairs, by their places
-pub record Describes (l : Load) (pairs : List Pair) : Type 0 where
+pub record Describes (l : Load) (bytes : List ℕ) (pairs : List Pair) : Type 0 where
   pub writes : writesOf l ≡ length pairs
-  pub places : (k : ℕ) → k < length pairs → (writeAt l k .register .position, writeAt l k .byte) ≡ getD pairs k nothing
+  pub places : (k : ℕ) → k < length pairs → (writeAt l bytes k .register .position, writeAt l bytes k .byte) ≡ getD pairs k nothing
 
 -- and so its first pairs are the first of them
-pub described : (l : Load) (pairs : List Pair) → Describes l pairs → (n : ℕ) → n ≤ length pairs → pairsOf l n ≡ take n pairs
-described l pairs d zero h = refl
-described l pairs d (suc n) h =
-    ap₂ (λ (ws : List Pair) (w : Pair). ws ++ w ∷ []) (described l pairs d n (omega arith)) (d .places n h) ∙ sym (take-suc pairs n nothing h)
+pub described : (l : Load) (bytes : List ℕ) (pairs : List Pair) → Describes l bytes pairs → (n : ℕ) → n ≤ length pairs → pairsOf l bytes n ≡ take n pairs
+described l bytes pairs d zero h = refl
+described l bytes pairs d (suc n) h =
+    ap₂ (λ (ws : List Pair) (w : Pair). ws ++ w ∷ []) (described l bytes pairs d n (omega arith)) (d .places n h) ∙ sym (take-suc pairs n nothing h)
 
 module _ (chip : Chip) (plan : Plan) where
   abbrev load : Load
   load = loadOf chip plan
+
+  abbrev bytes : List ℕ
+  bytes = bytesOf chip plan
 
   abbrev table : Table
   table = tableOf chip (plan .table)
@@ -66,11 +69,11 @@ module _ (chip : Chip) (plan : Plan) where
 
   -- of a table that the plan fills
   module _ (es : s ≡ length (plannedFor chip plan .settings)) (ev : v ≡ length (plannedFor chip plan .speeds)) where
-    at-place : (k : ℕ) → k < v + (s + v) → (writeAt load k .register .position, writeAt load k .byte) ≡ getD pairs k nothing
+    at-place : (k : ℕ) → k < v + (s + v) → (writeAt load bytes k .register .position, writeAt load bytes k .byte) ≡ getD pairs k nothing
     unfolding placeAt byteAt
     at-place k h = by-side (ltb k v) refl
       where
-        by-side : (raised : Bool) → ltb k v ≡ raised → (writeAt load k .register .position, writeAt load k .byte) ≡ getD pairs k nothing
+        by-side : (raised : Bool) → ltb k v ≡ raised → (writeAt load bytes k .register .position, writeAt load bytes k .byte) ≡ getD pairs k nothing
         by-side true t =
             rw t
             (ap (λ (p : ℕ). (p, fullOf (shapeOf chip (plan .table)))) (register-position chip (plan .table) (s + k))
@@ -86,20 +89,20 @@ module _ (chip : Chip) (plan : Plan) where
             ∙ sym (body-at (fullOf (shapeOf chip (plan .table))) table (plannedFor chip plan) es ev (k - v) j)
             ∙ ap (λ (n : ℕ). getD pairs n nothing) whole)
 
-    filled : Describes load pairs
+    filled : Describes load bytes pairs
     filled =
         let long = script-length (fullOf (shapeOf chip (plan .table))) table (plannedFor chip plan) es ev in
         record { writes = sym long; places = λ k h. at-place k (subst (λ (n : ℕ). k < n) long h) }
 
   -- and of one that the chip does not have: no write
-  empty : table ≡ missing → Describes load pairs
+  empty : table ≡ missing → Describes load bytes pairs
   empty e = rw e (record { writes = refl; places = λ k h. absurd (omega arith) })
 
-  load-describes : Sized plan → Describes load (placements chip plan)
+  load-describes : Sized plan → Describes load bytes (placements chip plan)
   unfolding placements
   load-describes sized = by-table (hasTable chip (plan .table)) refl
     where
-      by-table : (has : Bool) → hasTable chip (plan .table) ≡ has → Describes load pairs
+      by-table : (has : Bool) → hasTable chip (plan .table) ≡ has → Describes load bytes pairs
       by-table true t = filled (settings-long chip plan sized t) (speeds-long chip plan sized t)
       by-table false t = empty (table-none chip (plan .table) t)
 
@@ -116,38 +119,38 @@ module _ (chip : Chip) (plan : Plan) where
       by-side false t = rw t (omega (arith, ltb-false k v t, long))
 
   -- which has the masks of its position
-  masked : (k : ℕ) → k < writesOf load → writeAt load k .register .masks ≡ masksIn (rowOf chip (writeAt load k .register .position))
+  masked : (k : ℕ) → k < writesOf load → writeAt load bytes k .register .masks ≡ masksIn (rowOf chip (writeAt load bytes k .register .position))
   unfolding rowOf
   masked k h =
       let at = register-at chip (plan .table) (placeAt load k) (inside k h) in
       ap (λ (r : Register). r .masks) at ∙ sym (ap (λ (r : Register). masksIn (rowOf chip (r .position))) at)
 
   -- so what is made on an image is what the writes by position do
-  made-laid : (n : ℕ) → n ≤ writesOf load → (image : List ℕ) → madeOf load n image ≡ laid chip (pairsOf load n) image
+  made-laid : (n : ℕ) → n ≤ writesOf load → (image : List ℕ) → madeOf load bytes n image ≡ laid chip (pairsOf load bytes n) image
   made-laid zero h image = refl
   made-laid (suc n) h image =
-      let w = writeAt load n in
-      ap (λ (m : Masks). storedAt m (w .register .position) (w .byte) (madeOf load n image)) (masked n h)
+      let w = writeAt load bytes n in
+      ap (λ (m : Masks). storedAt m (w .register .position) (w .byte) (madeOf load bytes n image)) (masked n h)
       ∙ ap (placed chip (w .register .position) (w .byte)) (made-laid n (omega arith) image)
-      ∙ sym (laid-append chip (pairsOf load n) ((w .register .position, w .byte) ∷ []) image)
+      ∙ sym (laid-append chip (pairsOf load bytes n) ((w .register .position, w .byte) ∷ []) image)
 
   module _ (sized : Sized plan) where
-    places : Describes load (placements chip plan)
+    places : Describes load bytes (placements chip plan)
     places = load-describes sized
 
     pub load-writes : writesOf load ≡ length (scriptOf chip plan)
     load-writes = places .writes ∙ sym (ap length (bus-plain chip (placements chip plan)))
 
     -- all pairs are the script
-    pub load-pairs : pairsOf load (writesOf load) ≡ scriptOf chip plan
+    pub load-pairs : pairsOf load bytes (writesOf load) ≡ scriptOf chip plan
     load-pairs =
-        described load (placements chip plan) places (writesOf load) (omega (arith, places .writes))
+        described load bytes (placements chip plan) places (writesOf load) (omega (arith, places .writes))
         ∙ take-all (writesOf load) (placements chip plan) (omega (arith, places .writes))
         ∙ sym (bus-plain chip (placements chip plan))
 
     -- and some number of writes is that many of the script's on the bus
-    pub load-makes : (n : ℕ) → n ≤ writesOf load → (image : List ℕ) → madeOf load n image ≡ played chip (take n (scriptOf chip plan)) image
+    pub load-makes : (n : ℕ) → n ≤ writesOf load → (image : List ℕ) → madeOf load bytes n image ≡ played chip (take n (scriptOf chip plan)) image
     load-makes n h image =
         made-laid n h image
-        ∙ ap (λ (ws : List Pair). laid chip ws image) (described load (placements chip plan) places n (omega (arith, places .writes)))
+        ∙ ap (λ (ws : List Pair). laid chip ws image) (described load bytes (placements chip plan) places n (omega (arith, places .writes)))
         ∙ sym (bus-cut chip (placements chip plan) image n)

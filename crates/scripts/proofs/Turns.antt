@@ -30,30 +30,30 @@ flat-length : (xs : List Pair) → length (flat xs) ≡ 2 * length xs
 flat-length [] = refl
 flat-length (x ∷ xs) = omega (arith, flat-length xs)
 
-pub pairs-length : (l : Load) (n : ℕ) → length (pairsOf l n) ≡ n
-pairs-length l zero = refl
-pairs-length l (suc n) =
-    length-append (pairsOf l n) ((writeAt l n .register .position, writeAt l n .byte) ∷ [])
-    ∙ add-one (length (pairsOf l n))
-    ∙ ap suc (pairs-length l n)
+pub pairs-length : (l : Load) (bytes : List ℕ) (n : ℕ) → length (pairsOf l bytes n) ≡ n
+pairs-length l bytes zero = refl
+pairs-length l bytes (suc n) =
+    length-append (pairsOf l bytes n) ((writeAt l bytes n .register .position, writeAt l bytes n .byte) ∷ [])
+    ∙ add-one (length (pairsOf l bytes n))
+    ∙ ap suc (pairs-length l bytes n)
 
 -- a register's position is an address
-pub write-address : (l : Load) (k : ℕ) → writeAt l k .register .position < 256
-write-address l k = register-byte (l .chip) (l .table) (placeAt l k)
+pub write-address : (l : Load) (bytes : List ℕ) (k : ℕ) → writeAt l bytes k .register .position < 256
+write-address l bytes k = register-byte (l .chip) (l .table) (placeAt l k)
 
 -- the first k pairs stand in the buffer, which has room for all, and the rest of it is as it was
-pub record Written (l : Load) (old out : List ℕ) (at k : ℕ) : Type 0 where
+pub record Written (l : Load) (bytes old out : List ℕ) (at k : ℕ) : Type 0 where
   pub cursor : at ≡ 2 * k
   pub within : k ≤ writesOf l
   pub room : 2 * writesOf l ≤ length old
   pub long : length out ≡ length old
-  pub same : out ≡ flat (pairsOf l k) ++ drop (2 * k) old
+  pub same : out ≡ flat (pairsOf l bytes k) ++ drop (2 * k) old
 
-pub written-none : (l : Load) (old : List ℕ) → 2 * writesOf l ≤ length old → Written l old old 0 0
-written-none l old h = record { cursor = refl; within = omega arith; room = h; long = refl; same = refl }
+pub written-none : (l : Load) (bytes old : List ℕ) → 2 * writesOf l ≤ length old → Written l bytes old old 0 0
+written-none l bytes old h = record { cursor = refl; within = omega arith; room = h; long = refl; same = refl }
 
 -- the next pair lies in the buffer
-pub next-inside : {l : Load} {old out : List ℕ} {at k : ℕ} → Written l old out at k → k < writesOf l → at + 1 < length out
+pub next-inside : {l : Load} {bytes old out : List ℕ} {at k : ℕ} → Written l bytes old out at k → k < writesOf l → at + 1 < length out
 next-inside w h = omega (arith, w .cursor, w .room, w .long)
 
 -- two bytes at the seam of two lists
@@ -65,23 +65,23 @@ two-at front x y back a b n e =
     ∙ append-assoc front (a ∷ []) (b ∷ back)
     ∙ sym (append-assoc front (a ∷ (b ∷ [])) back)
 
-pub written-more : {l : Load} {old out new : List ℕ} {at next k : ℕ} (write : Write) → Written l old out at k → k < writesOf l → write ≡ writeAt l k
-    → next ≡ at + 2 → new ≡ set (set out at (write .register .position)) (at + 1) (write .byte) → Written l old new next (k + 1)
-written-more {l} {old} {out} {new} {at} {next} {k} write w h same moved wrote =
-    let a = writeAt l k .register .position in
-    let b = writeAt l k .byte in
+pub written-more : {l : Load} {bytes old out new : List ℕ} {at next k : ℕ} (write : Write) → Written l bytes old out at k → k < writesOf l → write ≡ writeAt l bytes k
+    → next ≡ at + 2 → new ≡ set (set out at (write .register .position)) (at + 1) (write .byte) → Written l bytes old new next (k + 1)
+written-more {l} {bytes} {old} {out} {new} {at} {next} {k} write w h same moved wrote =
+    let a = writeAt l bytes k .register .position in
+    let b = writeAt l bytes k .byte in
     let put : new ≡ set (set out (2 * k) a) (2 * k + 1) b =
     wrote ∙ ap₂ (λ (x : Write) (j : ℕ). set (set out j (x .register .position)) (j + 1) (x .byte)) same (w .cursor) in
     let inside : 2 * k < length old = omega (arith, w .room) in
     let next : suc (2 * k) < length old = omega (arith, w .room) in
-    let front = flat (pairsOf l k) in
+    let front = flat (pairsOf l bytes k) in
     let split : drop (2 * k) old ≡ getD old (2 * k) 0 ∷ (getD old (suc (2 * k)) 0 ∷ drop (suc (suc (2 * k))) old) =
     drop-cons old (2 * k) 0 inside ∙ ap (λ (xs : List ℕ). getD old (2 * k) 0 ∷ xs) (drop-cons old (suc (2 * k)) 0 next) in
     let past : suc (suc (2 * k)) ≡ 2 * (k + 1) = omega arith in
-    let long : length (flat (pairsOf l k)) ≡ 2 * k = flat-length (pairsOf l k) ∙ ap (λ (j : ℕ). 2 * j) (pairs-length l k) in
-    let pairs : flat (pairsOf l (k + 1)) ≡ front ++ a ∷ (b ∷ []) =
-    ap (λ (j : ℕ). flat (pairsOf l j)) (add-one k)
-    ∙ flat-append (pairsOf l k) ((a, b) ∷ []) in
+    let long : length (flat (pairsOf l bytes k)) ≡ 2 * k = flat-length (pairsOf l bytes k) ∙ ap (λ (j : ℕ). 2 * j) (pairs-length l bytes k) in
+    let pairs : flat (pairsOf l bytes (k + 1)) ≡ front ++ a ∷ (b ∷ []) =
+    ap (λ (j : ℕ). flat (pairsOf l bytes j)) (add-one k)
+    ∙ flat-append (pairsOf l bytes k) ((a, b) ∷ []) in
     record {
       cursor = omega (arith, moved, w .cursor);
       within = omega arith;
@@ -95,42 +95,42 @@ written-more {l} {old} {out} {new} {at} {next} {k} write w h same moved wrote =
     }
 
 -- all of them, or none where there is no room
-pub put-all : {l : Load} {old out : List ℕ} {at k n : ℕ} → n ≡ writesOf l → Written l old out at k → n ≤ k → Puts l old (counted.Of n) out
-put-all {l} {old} {out} {at} {k} {n} e w h =
+pub put-all : {l : Load} {bytes old out : List ℕ} {at k n : ℕ} → n ≡ writesOf l → Written l bytes old out at k → n ≤ k → Puts l bytes old (counted.Of n) out
+put-all {l} {bytes} {old} {out} {at} {k} {n} e w h =
     let all : k ≡ writesOf l = omega (arith, w .within) in
     let none : first (roomChecks (2 * writesOf l) old) ≡ 0 = rw (le-ltb (length old) (2 * writesOf l) (w .room)) in
     record {
       answer = ap (λ (m : ℕ). (0, m)) e ∙ told-passed (roomChecks (2 * writesOf l) old) (writesOf l) none;
-      bytes = w .same ∙ ap (λ (j : ℕ). flat (pairsOf l j) ++ drop (2 * j) old) all ∙ when-passed _ old none;
+      pairs = w .same ∙ ap (λ (j : ℕ). flat (pairsOf l bytes j) ++ drop (2 * j) old) all ∙ when-passed _ old none;
     }
 
-pub put-none : (l : Load) (old : List ℕ) → length old < 2 * writesOf l → Puts l old (counted.Refused OutputTooShort) old
-put-none l old h =
+pub put-none : (l : Load) (bytes old : List ℕ) → length old < 2 * writesOf l → Puts l bytes old (counted.Refused OutputTooShort) old
+put-none l bytes old h =
     let all : 9 ≡ first (roomChecks (2 * writesOf l) old) = rw (lt-ltb (length old) (2 * writesOf l) h) in
-    record { answer = told-refused OutputTooShort (roomChecks (2 * writesOf l) old) (writesOf l) all; bytes = when-refused OutputTooShort _ old all }
+    record { answer = told-refused OutputTooShort (roomChecks (2 * writesOf l) old) (writesOf l) all; pairs = when-refused OutputTooShort _ old all }
 
 -- the first k writes are made on an image, which keeps its length
-pub record Made (l : Load) (n : ℕ) (old image : List ℕ) (k : ℕ) : Type 0 where
+pub record Made (l : Load) (bytes : List ℕ) (n : ℕ) (old image : List ℕ) (k : ℕ) : Type 0 where
   pub within : k ≤ n
   pub long : length image ≡ length old
-  pub same : image ≡ madeOf l k old
+  pub same : image ≡ madeOf l bytes k old
 
-pub made-none : (l : Load) (n : ℕ) (old : List ℕ) → Made l n old old 0
-made-none l n old = record { within = omega arith; long = refl; same = refl }
+pub made-none : (l : Load) (bytes : List ℕ) (n : ℕ) (old : List ℕ) → Made l bytes n old old 0
+made-none l bytes n old = record { within = omega arith; long = refl; same = refl }
 
-pub made-more : {l : Load} {n : ℕ} {old image new : List ℕ} {k : ℕ} (write : Write) → Made l n old image k → k < n → write ≡ writeAt l k
-    → new ≡ storedAt (write .register .masks) (write .register .position) (write .byte) image → Made l n old new (k + 1)
-made-more {l} {n} {old} {image} {new} {k} write m h same stored =
+pub made-more : {l : Load} {bytes : List ℕ} {n : ℕ} {old image new : List ℕ} {k : ℕ} (write : Write) → Made l bytes n old image k → k < n → write ≡ writeAt l bytes k
+    → new ≡ storedAt (write .register .masks) (write .register .position) (write .byte) image → Made l bytes n old new (k + 1)
+made-more {l} {bytes} {n} {old} {image} {new} {k} write m h same stored =
     record {
       within = omega arith;
       long = ap length stored ∙ storedAt-length (write .register .masks) (write .register .position) (write .byte) image ∙ m .long;
       same =
           stored
           ∙ ap₂ (λ (w : Write) (x : List ℕ). storedAt (w .register .masks) (w .register .position) (w .byte) x) same (m .same)
-          ∙ ap (λ (j : ℕ). madeOf l j old) (sym (add-one k));
+          ∙ ap (λ (j : ℕ). madeOf l bytes j old) (sym (add-one k));
     }
 
-pub made-all : {l : Load} {n : ℕ} {old image : List ℕ} {k : ℕ} → Made l n old image k → n ≤ k → image ≡ madeOf l n old
-made-all {l} {n} {old} {image} {k} m h =
+pub made-all : {l : Load} {bytes : List ℕ} {n : ℕ} {old image : List ℕ} {k : ℕ} → Made l bytes n old image k → n ≤ k → image ≡ madeOf l bytes n old
+made-all {l} {bytes} {n} {old} {image} {k} m h =
     let all : k ≡ n = omega (arith, m .within) in
-    m .same ∙ ap (λ (j : ℕ). madeOf l j old) all
+    m .same ∙ ap (λ (j : ℕ). madeOf l bytes j old) all

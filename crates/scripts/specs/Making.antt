@@ -30,27 +30,29 @@ writesOf l = l .speeds + (l .settings + l .speeds)
 unfoldable pub placeAt : Load → ℕ → ℕ
 placeAt l k = cond (ltb k (l .speeds)) (l .settings + k) (k - l .speeds)
 
-unfoldable pub byteAt : Load → ℕ → ℕ
-byteAt l k = cond (ltb k (l .speeds)) (l .full) (getD (l .body) (k - l .speeds) 0)
+unfoldable pub byteAt : Load → List ℕ → ℕ → ℕ
+byteAt l bytes k = cond (ltb k (l .speeds)) (l .full) (getD bytes (k - l .speeds) 0)
 
-abbrev pub writeAt : Load → ℕ → Write
-writeAt l k = record { register = registerIn (sheetOf (l .chip)) (l .table) (placeAt l k); byte = byteAt l k }
+abbrev pub writeAt : Load → List ℕ → ℕ → Write
+writeAt l bytes k = record { register = registerIn (sheetOf (l .chip)) (l .table) (placeAt l k); byte = byteAt l bytes k }
 
 -- the first n pairs of position and byte
-abbrev pub pairsOf : Load → ℕ → List Pair
-pairsOf l zero = []
-pairsOf l (suc n) = pairsOf l n ++ ((writeAt l n .register .position, writeAt l n .byte) ∷ [])
+abbrev pub pairsOf : Load → List ℕ → ℕ → List Pair
+pairsOf l bytes zero = []
+pairsOf l bytes (suc n) = pairsOf l bytes n ++ ((writeAt l bytes n .register .position, writeAt l bytes n .byte) ∷ [])
 
 -- an image after the first n writes
-abbrev pub madeOf : Load → ℕ → List ℕ → List ℕ
-madeOf l zero image = image
-madeOf l (suc n) image = storedAt (writeAt l n .register .masks) (writeAt l n .register .position) (writeAt l n .byte) (madeOf l n image)
+abbrev pub madeOf : Load → List ℕ → ℕ → List ℕ → List ℕ
+madeOf l bytes zero image = image
+madeOf l bytes (suc n) image =
+    let write = writeAt l bytes n in
+    storedAt (write .register .masks) (write .register .position) (write .byte) (madeOf l bytes n image)
 
--- no more registers than a body has bytes, which are all there
+-- no more registers than the longest body has bytes
 pub record Short (l : Load) : Type 0 where
   pub registers : l .settings + l .speeds ≤ 14
 
--- what is loaded into a chip's table
+-- a plan's table of a chip ..
 abbrev pub loadOf : Chip → Plan → Load
 loadOf chip plan =
     record {
@@ -59,10 +61,13 @@ loadOf chip plan =
       settings = length (tableOf chip (plan .table) .settings);
       speeds = length (tableOf chip (plan .table) .speeds);
       full = fullOf (shapeOf chip (plan .table));
-      body = column 14 (λ k. getD (body (plannedFor chip plan)) k 0);
     }
 
+-- .. and the bytes that go there, with zeros behind them
+abbrev pub bytesOf : Chip → Plan → List ℕ
+bytesOf chip plan = column 14 (λ k. getD (body (plannedFor chip plan)) k 0)
+
 -- all pairs at the front of a buffer, or none
-pub record Puts (l : Load) (old : List ℕ) (r : Count) (new : List ℕ) : Type 0 where
+pub record Puts (l : Load) (bytes old : List ℕ) (r : Count) (new : List ℕ) : Type 0 where
   pub answer : tellsCount r ≡ told (roomChecks (2 * writesOf l) old) (writesOf l)
-  pub bytes : new ≡ left (roomChecks (2 * writesOf l) old) (flat (pairsOf l (writesOf l)) ++ drop (2 * writesOf l) old) old
+  pub pairs : new ≡ left (roomChecks (2 * writesOf l) old) (flat (pairsOf l bytes (writesOf l)) ++ drop (2 * writesOf l) old) old

@@ -15,7 +15,10 @@ pub fn script(plan: Plan, out: &mut [u8]) -> Count
 {
     match plans::accept(plan) {
         Admitted::Refused(refusal) => Count::Refused(refusal),
-        Admitted::Known(chip) => output::put_all(making::load_of(chip, plan), out),
+        Admitted::Known(chip) => {
+            let load = making::load_of(chip, plan);
+            output::put_all(load, making::bytes_of(chip, plan), out)
+        }
     }
 }
 
@@ -25,6 +28,6 @@ pub fn make(chip: Chip, plan: Plan, count: usize, image: &mut [u8]) -> usize
 {
     let load = making::load_of(chip, plan);
     let writes = playing::least(count, load.length());
-    playing::make_all(load, writes, image);
+    playing::make_all(load, making::bytes_of(chip, plan), writes, image);
     writes
 }

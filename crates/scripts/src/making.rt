@@ -5,16 +5,15 @@ use cards::Register;
 use curves::Plan;
 ghost use Prim.Native.Nat.{_<_};
 ghost use mathlib.Core.Path.{_≡_};
-ghost use Rattle.scripts.specs.Making.{Short, writesOf, placeAt, byteAt, writeAt, loadOf};
+ghost use Rattle.scripts.specs.Making.{Short, writesOf, placeAt, byteAt, writeAt, loadOf, bytesOf};
 
-// A fan table, by its chip and number, and what goes there: how many settings and speeds it has, the full byte, and the body.
+// A fan table that is loaded: its chip and number, how many settings and speeds it has, and the full byte.
 pub struct Load {
     pub chip: Chip,
     pub table: u8,
     pub settings: usize,
     pub speeds: usize,
     pub full: u8,
-    pub body: [u8; LONGEST],
 }
 
 // A byte to a register.
@@ -43,34 +42,33 @@ impl Load {
         k - self.speeds
     }
 
-    // The byte of the k-th write.
-    fn byte(self, k: usize) -> u8
+    // The byte of the k-th write, from a plan's body.
+    fn byte(self, body: [u8; LONGEST], k: usize) -> u8
         requires { ⌜ Short self ⌝ }
         requires { ⌜ k < writesOf self ⌝ }
-        ensures { λ r. ⌜ r ≡ byteAt self k ⌝ }
+        ensures { λ r. ⌜ r ≡ byteAt self body k ⌝ }
     {
         if k < self.speeds {
             return self.full;
         }
-        let body = self.body;
         body[k - self.speeds]
     }
 
     // The k-th write.
-    pub(crate) fn write(self, k: usize) -> Write
+    pub(crate) fn write(self, body: [u8; LONGEST], k: usize) -> Write
         requires { ⌜ Short self ⌝ }
         requires { ⌜ k < writesOf self ⌝ }
-        ensures { λ r. ⌜ r ≡ writeAt self k ⌝ }
+        ensures { λ r. ⌜ r ≡ writeAt self body k ⌝ }
     {
         let chip = self.chip;
         Write {
             register: cards::register_of(chip, self.table, self.place(k)),
-            byte: self.byte(k),
+            byte: self.byte(body, k),
         }
     }
 }
 
-// What a plan loads into its table of a chip; where the chip has no such table, no register.
+// A plan's table of a chip; where the chip has no such table, one without a register.
 pub(crate) fn load_of(chip: Chip, plan: Plan) -> Load
     ensures { λ r. ⌜ r ≡ loadOf chip plan ⌝ }
 {
@@ -82,6 +80,14 @@ pub(crate) fn load_of(chip: Chip, plan: Plan) -> Load
         settings: layout.settings,
         speeds: layout.speeds,
         full: curves::full_of(shape),
-        body: bodies::body_of(shape, plan),
     }
+}
+
+// The bytes that a plan loads there.
+pub(crate) fn bytes_of(chip: Chip, plan: Plan) -> [u8; LONGEST]
+    ensures { λ r. ⌜ r ≡ bytesOf chip plan ⌝ }
+{
+    let layout = cards::layout_of(chip, plan.table);
+    let shape = layout.shape;
+    bodies::body_of(shape, plan)
 }

@@ -1,6 +1,7 @@
 // A script's pairs in a lent buffer.
 use crate::making::Load;
 use crate::making::Write;
+use bodies::LONGEST;
 use refusal::Count;
 use refusal::Refusal;
 ghost use Prim.Native.Nat.{_+_, _<_};
@@ -20,9 +21,9 @@ fn put(write: Write, out: &mut [u8], at: usize) -> usize
     at + 2
 }
 
-pub(crate) fn put_all(load: Load, out: &mut [u8]) -> Count
+pub(crate) fn put_all(load: Load, body: [u8; LONGEST], out: &mut [u8]) -> Count
     requires { ⌜ Short load ⌝ }
-    ensures { λ r. ⌜ Puts load (now (out .entry)) r (now (out .exit)) ⌝ }
+    ensures { λ r. ⌜ Puts load body (now (out .entry)) r (now (out .exit)) ⌝ }
 {
     let writes = load.length();
     if out.len() < 2 * writes {
@@ -30,7 +31,7 @@ pub(crate) fn put_all(load: Load, out: &mut [u8]) -> Count
     }
     let mut at = 0;
     for k in 0..writes {
-        at = put(load.write(k), out, at);
+        at = put(load.write(body, k), out, at);
     }
     Count::Of(writes)
 }

@@ -1,7 +1,9 @@
 -- `scripts::make` meets its contract: the writes of the plan's load, as many as are asked for or all, are those of its script.
 -- Assumes nothing.
 use native.Mathlib.Nat.{min-le-right}
-use mathlib.Core.Path.{sym, ap, subst, _∙_}
+use Prim.Native.Nat.{ℕ}
+use mathlib.Core.Path.{sym, ap, ap₂, subst, _∙_}
+use mathlib.Core.List.{List}
 use Rattle.curves.proofs.Owned.{plan-typed}
 use Rattle.scripts.specs.declared.making.Load.{Load}
 use Rattle.scripts.specs.Making.{writesOf, madeOf, Short}
@@ -13,7 +15,9 @@ use Rattle.scripts.proofs.make.Tie as tie
 
 -- the load is short, since a table is
 short : (c : tie.After-load-of) → Short (c .load-of .result)
-short c = subst Short (sym (c .load-of .ensures)) (load-short _ _)
+short c =
+    let a = c .before .before .args in
+    subst Short (sym (c .load-of .ensures)) (load-short (a .chip) (a .plan))
 
 load-of-requires : tie.Need-load-of-requires
 load-of-requires c κs = search needs
@@ -24,9 +28,12 @@ length-requires c κs = short c
 least-requires : tie.Need-least-requires
 least-requires c κs = search needs
 
+bytes-of-requires : tie.Need-bytes-of-requires
+bytes-of-requires c κs = search needs
+
 make-all-requires : tie.Need-make-all-requires
 make-all-requires c κs =
-    let chosen = c .before in
+    let chosen = c .before .before in
     let told = chosen .before in
     (short (told .before), rw (chosen .least .ensures, told .length .ensures) (min-le-right _ _))
 
@@ -35,14 +42,17 @@ same-length c = search needs
 
 returns : tie.Need-returns
 returns c =
-    let chosen = c .before .before .before .before in
+    let made = c .before .before in
+    let body = made .before .before in
+    let chosen = body .before in
     let told = chosen .before in
     let load = told .before .load-of .ensures in
     let start = told .before .before .before in
     let a = start .args in
     made-script (a .chip) (a .plan) (a .count) (plan-typed (a .plan) _ (start .good .1 .0) .sized)
     (told .length .ensures ∙ ap writesOf load) (chosen .least .ensures)
-    (c .before .before .make-all .ensures ∙ ap (λ (l : Load). madeOf l (chosen .least .result) (a .image .now)) load)
+    (made .make-all .ensures
+    ∙ ap₂ (λ (l : Load) (bytes : List ℕ). madeOf l bytes (chosen .least .result) (a .image .now)) load (body .bytes-of .ensures))
 
 pub make-spec : {M : Type 1} → statement M
 make-spec =
@@ -51,6 +61,7 @@ make-spec =
     load-of-requires
     length-requires
     least-requires
+    bytes-of-requires
     make-all-requires
     same-length
     returns)

@@ -1,7 +1,8 @@
 -- `scripts::script` meets its contract: each answer knows how the plan was judged, and the pairs of an accepted plan's load are its script.
 -- Assumes nothing.
-use mathlib.Core.Path.{sym, ap, subst, _∙_}
-use mathlib.Core.List.{[]}
+use Prim.Native.Nat.{ℕ}
+use mathlib.Core.Path.{sym, ap, ap₂, subst, _∙_}
+use mathlib.Core.List.{List, []}
 use Rattle.cards.specs.declared.types.Named.{Named}
 use Rattle.cards.specs.Cards.{whenKnown}
 use Rattle.curves.proofs.Owned.{plan-typed}
@@ -27,8 +28,15 @@ enum-known-chip c = search needs
 load-of-requires : tie.Need-load-of-requires
 load-of-requires c κs = search needs
 
+bytes-of-requires : tie.Need-bytes-of-requires
+bytes-of-requires c κs = search needs
+
 put-all-requires : tie.Need-put-all-requires
-put-all-requires c κs = subst Short (sym (c .before .load-of .ensures)) (load-short _ _)
+put-all-requires c κs =
+    let made = c .before .before in
+    let known = made .before .before in
+    let plan = known .before .before .before .before .args .plan in
+    subst Short (sym (made .load-of .ensures)) (load-short (known .chip .given .0 .0) plan)
 
 returns : tie.Need-returns
 returns c =
@@ -40,19 +48,20 @@ same-length c = search needs
 
 returns-2 : tie.Need-returns-2
 returns-2 c =
-    let made = c .before .before .before .before in
+    let wrote = c .before .before in
+    let body = wrote .before .before in
+    let made = body .before in
     let known = made .before .before in
     let asked = known .before .before in
     let start = asked .before .before in
     let plan = start .args .plan in
     let chip = known .chip .given .0 .0 in
-    let sized = plan-typed plan _ (start .good .0) .sized in
     let told = known .chip .given .1 in
     let pairs =
-    ap (λ (l : Load). pairsOf l (writesOf l)) (made .load-of .ensures)
-    ∙ load-pairs chip plan sized
+    ap₂ (λ (l : Load) (bytes : List ℕ). pairsOf l bytes (writesOf l)) (made .load-of .ensures) (body .bytes-of .ensures)
+    ∙ load-pairs chip plan (plan-typed plan _ (start .good .0) .sized)
     ∙ ap (λ (n : Named). whenKnown n (λ c. scriptOf c plan) []) (sym (accepted-chip chip (asked .accept .ensures) told)) in
-    script-put _ _ (accepted-plan chip (asked .accept .ensures) told) pairs (c .before .before .put-all .ensures)
+    script-put _ _ (accepted-plan chip (asked .accept .ensures) told) pairs (wrote .put-all .ensures)
 
 pub script-spec : {M : Type 1} → statement M
 script-spec =
@@ -62,6 +71,7 @@ script-spec =
     enum-known-refusal
     enum-known-chip
     load-of-requires
+    bytes-of-requires
     put-all-requires
     returns
     same-length

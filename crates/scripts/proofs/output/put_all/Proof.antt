@@ -10,10 +10,10 @@ use Rattle.scripts.proofs.output.put_all.Statement.{statement}
 use Rattle.scripts.proofs.output.put_all.Tie as tie
 
 abbrev Inv-loop : tie.InvT-loop
-Inv-loop load out₀ writes at₀ k₀ out at k = Written load out₀ out at k
+Inv-loop load body out₀ writes at₀ k₀ out at k = Written load body out₀ out at k
 
 abbrev μ-loop : tie.MeasureT-loop
-μ-loop load out₀ writes at₀ k₀ out at k = writes - k
+μ-loop load body out₀ writes at₀ k₀ out at k = writes - k
 
 length-requires : tie.Need-length-requires Inv-loop μ-loop
 length-requires c κs = search needs
@@ -22,10 +22,10 @@ mul-if1 : tie.Need-mul-if1 Inv-loop μ-loop
 mul-if1 c = omega (arith, c .length .ensures, c .before .before .pre .registers)
 
 returns : tie.Need-returns Inv-loop μ-loop
-returns c = put-none _ _ (omega (arith, c .if1 .taken, c .before .length .ensures))
+returns c = put-none _ _ _ (omega (arith, c .if1 .taken, c .before .length .ensures))
 
 loop-holds : tie.Need-loop-holds Inv-loop μ-loop
-loop-holds c = written-none _ _ (omega (arith, c .if1 .left, c .before .length .ensures))
+loop-holds c = written-none _ _ _ (omega (arith, c .if1 .left, c .before .length .ensures))
 
 write-requires : tie.Need-write-requires Inv-loop μ-loop
 write-requires c κs =
@@ -37,7 +37,7 @@ put-requires c κs =
     let wrote = c .before in
     let turn = wrote .before in
     let start = turn .before .before .before .before .before in (
-      subst (λ (w : Write). w .register .position < 256) (sym (wrote .write .ensures)) (write-address (start .args .load) (turn .before .loop .k)),
+      subst (λ (w : Write). w .register .position < 256) (sym (wrote .write .ensures)) (write-address (start .args .load) (start .args .body) (turn .before .loop .k)),
       next-inside (turn .before .loop .inv) (omega (arith, turn .loop-test .taken, turn .before .before .before .length .ensures)),
     )
 

@@ -8,13 +8,13 @@ use Rattle.scripts.proofs.playing.make_all.Statement.{statement}
 use Rattle.scripts.proofs.playing.make_all.Tie as tie
 
 abbrev Inv-loop : tie.InvT-loop
-Inv-loop load writes image₀ k₀ image k = Made load writes image₀ image k
+Inv-loop load body writes image₀ k₀ image k = Made load body writes image₀ image k
 
 abbrev μ-loop : tie.MeasureT-loop
-μ-loop load writes image₀ k₀ image k = writes - k
+μ-loop load body writes image₀ k₀ image k = writes - k
 
 loop-holds : tie.Need-loop-holds Inv-loop μ-loop
-loop-holds c = made-none _ _ _
+loop-holds c = made-none _ _ _ _
 
 write-requires : tie.Need-write-requires Inv-loop μ-loop
 write-requires c κs =

@@ -15,7 +15,7 @@ array-read-result c = search needs
 
 returns-2 : tie.Need-returns-2
 unfolding byteAt
-returns-2 c = rw (le-ltb _ _ (c .before .before .if1 .left))
+returns-2 c = rw (le-ltb _ _ (c .before .if1 .left))
 
 pub byte-spec : {M : Type 1} → statement M
 byte-spec = tie.close (tie.spec returns array-read-result returns-2)
