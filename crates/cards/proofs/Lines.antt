@@ -4,16 +4,18 @@
 use Prim.Native.Nat.{ℕ, zero, suc, _≤_, _<_}
 use native.Mathlib.Nat.{le-of-suc-le-suc, not-suc-le-zero}
 use native.Mathlib.Omega.{arith}
-use mathlib.Core.Path.{_≡_, refl}
+use mathlib.Core.Path.{_≡_, refl, sym, ap}
 use mathlib.Core.Bool.{So}
 use mathlib.Core.List.{List, [], _∷_}
 use borrow.Author.Tests.{leb-true, ltb-true, eq-eqb, ne-eqb}
 use lib.Dec.{leb, ltb}
 use lib.ListN.{length, getD}
 use Rattle.cards.specs.declared.types.Chip.{Chip}
-use Rattle.cards.specs.Rows.{Line, row, rowIn}
-use Rattle.cards.specs.Sheets.{Sheet}
-use Rattle.cards.specs.Cards.{sheetOf, cardOf, rowOf, sizeOf}
+use Rattle.cards.specs.Rows.{every, Line, Row, row, rowIn, masksIn, column}
+use Rattle.cards.specs.Sheets.{Sheet, powerOnIn}
+use Rattle.cards.specs.Cards.{sheetOf, cardOf, rowOf, sizeOf, powerOn}
+use Rattle.cards.proofs.Columns.{column-at, masks-of-column}
+use Rattle.cards.proofs.Carried.{unclearing, clears-none}
 use Rattle.cards.proofs.Every.{both}
 use Rattle.cards.proofs.Sound.{rising, Sound, sound-sheet}
 
@@ -76,3 +78,27 @@ module _ (chip : Chip) (k : ℕ) (there : k < length (cardOf chip)) where
   pub line-counts : rowOf chip (lineAt (cardOf chip) k .0) ≡ row (lineAt (cardOf chip) k .1) (lineAt (cardOf chip) k .2) (lineAt (cardOf chip) k .3)
   unfolding rowOf
   line-counts = sheet-counts (sheetOf chip) (sound-sheet chip) k there
+
+-- what a chip's columns have at a position is its row; behind the image's end there is none
+module _ (chip : Chip) (position : ℕ) where
+  pub power-beyond : sizeOf chip ≤ position → 0x00 ≡ rowOf chip position .power
+  unfolding rowOf
+  power-beyond h = ap (λ (r : Row). r .power) (sym (row-beyond (sizeOf chip) 0x00 (cardOf chip) (sound-sheet chip .lines) position h))
+
+  pub masks-beyond : sizeOf chip ≤ position → masksIn (row 0x00 0x00 0x00) ≡ masksIn (rowOf chip position)
+  unfolding rowOf
+  masks-beyond h = ap masksIn (sym (row-beyond (sizeOf chip) 0x00 (cardOf chip) (sound-sheet chip .lines) position h))
+
+  pub power-at : position < sizeOf chip → getD (powerOn chip) position 0 ≡ rowOf chip position .power
+  unfolding rowOf powerOnIn
+  power-at h = column-at (sizeOf chip) (λ p. rowIn (cardOf chip) p .power) position h
+
+  pub masks-at : (clears : ℕ) → clears ≡ rowOf chip position .clears → position < sizeOf chip
+      → masksIn (row (getD (column (sizeOf chip) (λ p. rowOf chip p .writable)) position 0) clears 0) ≡ masksIn (rowOf chip position)
+  unfolding rowOf
+  masks-at clears e h = masks-of-column (sizeOf chip) (cardOf chip) position clears h e
+
+  -- where no line has a bit that clears on one
+  pub clearless : So (every (unclearing []) (cardOf chip)) → 0x00 ≡ rowOf chip position .clears
+  unfolding rowOf
+  clearless t = sym (clears-none [] (cardOf chip) t position refl)

@@ -224,6 +224,11 @@ laid-first chip number h l =
     ap Laid (sym (table-laid chip number has))
     ∙ ap (λ (b : Bool). cond b (Laid (layout (cardOf chip) (tableOf chip number))) Nothing) (sym has)
 
+-- and what no table says
+pub none-laid : (chip : Chip) (number : ℕ) → (1 ≤ number → number ≤ length (tablesOf chip) → ⊥) → Nothing ≡ laidIn (sheetOf chip) number
+none-laid chip number h =
+    ap (λ (has : Bool). cond has (Laid (layout (cardOf chip) (tableOf chip number))) Nothing) (sym (no-number number (length (tablesOf chip)) h))
+
 -- what an answer tells of the table
 fan-laid : (has : Bool) (a b : Layout) → cond has (Laid a) Nothing ≡ Laid b → (has ≡ true) × (b ≡ a)
 fan-laid true a b e = (refl, cc)

@@ -16,7 +16,9 @@ use crate::types::in_a_row;
 use power_on::POWER_ON;
 use writable::WRITABLE;
 ghost use mathlib.Core.Path.{_≡_};
-ghost use Rattle.cards.specs.F75373s.{card, identity, sheet};
+ghost use Rattle.cards.specs.declared.types.Chip.the-variants.{F75373s};
+ghost use Rattle.cards.specs.Cards.{sheetOf, rowOf};
+ghost use Rattle.cards.specs.F75373s.{card};
 ghost use Rattle.cards.specs.Rows.{masksIn, requiredIn, rowIn};
 ghost use Rattle.cards.specs.Sheets.{laidIn, registerIn};
 
@@ -41,7 +43,7 @@ fn clears(position: usize) -> u8
 }
 
 pub(crate) fn masks(position: usize) -> Masks
-    ensures { λ r. ⌜ r ≡ masksIn (rowIn card position) ⌝ }
+    ensures { λ r. ⌜ r ≡ masksIn (rowOf F75373s position) ⌝ }
 {
     if SIZE <= position {
         return NO_MASKS;
@@ -53,7 +55,7 @@ pub(crate) fn masks(position: usize) -> Masks
 }
 
 pub(crate) fn power(position: usize) -> u8
-    ensures { λ r. ⌜ r ≡ rowIn card position .power ⌝ }
+    ensures { λ r. ⌜ r ≡ rowOf F75373s position .power ⌝ }
 {
     if SIZE <= position {
         return 0x00;
@@ -86,7 +88,7 @@ const IDENTITY: [Required; REQUIRED] = [
 ];
 
 pub(crate) fn required(k: usize) -> Required
-    ensures { λ r. ⌜ r ≡ requiredIn identity k ⌝ }
+    ensures { λ r. ⌜ r ≡ requiredIn (sheetOf F75373s .identity) k ⌝ }
 {
     if REQUIRED <= k {
         return NOTHING;
@@ -102,7 +104,7 @@ const EVERY_BIT: Masks = Masks {
 
 // The registers of the fan tables: B1 to B4, C1 to C5, high byte first.
 pub(crate) fn register(number: u8, k: usize) -> Register
-    ensures { λ r. ⌜ r ≡ registerIn sheet number k ⌝ }
+    ensures { λ r. ⌜ r ≡ registerIn (sheetOf F75373s) number k ⌝ }
 {
     match number {
         1 => in_a_row(0xA0, 14, EVERY_BIT, k),
@@ -112,7 +114,7 @@ pub(crate) fn register(number: u8, k: usize) -> Register
 }
 
 pub(crate) fn table(number: u8) -> Fan
-    ensures { λ r. ⌜ r ≡ laidIn sheet number ⌝ }
+    ensures { λ r. ⌜ r ≡ laidIn (sheetOf F75373s) number ⌝ }
 {
     match number {
         1..=2 => Fan::Laid(Layout {

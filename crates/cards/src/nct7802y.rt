@@ -16,8 +16,9 @@ use crate::types::in_a_row;
 use power_on::POWER_ON;
 use writable::WRITABLE;
 ghost use mathlib.Core.Path.{_≡_};
-ghost use Rattle.cards.specs.Nct7802y.{card, identity, sheet};
-ghost use Rattle.cards.specs.Rows.{masksIn, requiredIn, rowIn};
+ghost use Rattle.cards.specs.declared.types.Chip.the-variants.{Nct7802y};
+ghost use Rattle.cards.specs.Cards.{sheetOf, rowOf};
+ghost use Rattle.cards.specs.Rows.{masksIn, requiredIn};
 ghost use Rattle.cards.specs.Sheets.{laidIn, registerIn};
 
 const SIZE: usize = 256;
@@ -30,7 +31,7 @@ pub(crate) const SIZES: Sizes = Sizes {
 };
 
 pub(crate) fn masks(position: usize) -> Masks
-    ensures { λ r. ⌜ r ≡ masksIn (rowIn card position) ⌝ }
+    ensures { λ r. ⌜ r ≡ masksIn (rowOf Nct7802y position) ⌝ }
 {
     if SIZE <= position {
         return NO_MASKS;
@@ -42,7 +43,7 @@ pub(crate) fn masks(position: usize) -> Masks
 }
 
 pub(crate) fn power(position: usize) -> u8
-    ensures { λ r. ⌜ r ≡ rowIn card position .power ⌝ }
+    ensures { λ r. ⌜ r ≡ rowOf Nct7802y position .power ⌝ }
 {
     if SIZE <= position {
         return 0x00;
@@ -80,7 +81,7 @@ const IDENTITY: [Required; REQUIRED] = [
 ];
 
 pub(crate) fn required(k: usize) -> Required
-    ensures { λ r. ⌜ r ≡ requiredIn identity k ⌝ }
+    ensures { λ r. ⌜ r ≡ requiredIn (sheetOf Nct7802y .identity) k ⌝ }
 {
     if REQUIRED <= k {
         return NOTHING;
@@ -96,7 +97,7 @@ const EVERY_BIT: Masks = Masks {
 
 // The registers of the fan tables: T1 to T4, critical, FL1 to FL4.
 pub(crate) fn register(number: u8, k: usize) -> Register
-    ensures { λ r. ⌜ r ≡ registerIn sheet number k ⌝ }
+    ensures { λ r. ⌜ r ≡ registerIn (sheetOf Nct7802y) number k ⌝ }
 {
     match number {
         1 => in_a_row(0x80, 9, EVERY_BIT, k),
@@ -107,7 +108,7 @@ pub(crate) fn register(number: u8, k: usize) -> Register
 }
 
 pub(crate) fn table(number: u8) -> Fan
-    ensures { λ r. ⌜ r ≡ laidIn sheet number ⌝ }
+    ensures { λ r. ⌜ r ≡ laidIn (sheetOf Nct7802y) number ⌝ }
 {
     match number {
         1..=3 => Fan::Laid(Layout {

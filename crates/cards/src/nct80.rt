@@ -8,8 +8,9 @@ use crate::types::Sizes;
 use power_on::POWER_ON;
 use writable::WRITABLE;
 ghost use mathlib.Core.Path.{_≡_};
-ghost use Rattle.cards.specs.Nct80.{card};
-ghost use Rattle.cards.specs.Rows.{masksIn, rowIn};
+ghost use Rattle.cards.specs.declared.types.Chip.the-variants.{Nct80};
+ghost use Rattle.cards.specs.Cards.{rowOf};
+ghost use Rattle.cards.specs.Rows.{masksIn};
 
 const SIZE: usize = 256;
 
@@ -19,7 +20,7 @@ pub(crate) const SIZES: Sizes = Sizes {
 };
 
 pub(crate) fn masks(position: usize) -> Masks
-    ensures { λ r. ⌜ r ≡ masksIn (rowIn card position) ⌝ }
+    ensures { λ r. ⌜ r ≡ masksIn (rowOf Nct80 position) ⌝ }
 {
     if SIZE <= position {
         return NO_MASKS;
@@ -31,7 +32,7 @@ pub(crate) fn masks(position: usize) -> Masks
 }
 
 pub(crate) fn power(position: usize) -> u8
-    ensures { λ r. ⌜ r ≡ rowIn card position .power ⌝ }
+    ensures { λ r. ⌜ r ≡ rowOf Nct80 position .power ⌝ }
 {
     if SIZE <= position {
         return 0x00;

@@ -1,53 +1,19 @@
 -- `cards::masks_of` meets its contract: each arm answers by the module of its chip.
 -- Assumes nothing.
-use mathlib.Core.Path.{sym, ap, _∙_}
-use Rattle.cards.specs.declared.types.Chip.{Chip}
-use Rattle.cards.specs.Rows.{masksIn}
-use Rattle.cards.specs.Cards.{sheetOf, rowOf}
 use borrow.Author.Needs.{needs}
 use Rattle.cards.proofs.masks_of.Statement.{statement}
 use Rattle.cards.proofs.masks_of.Tie as tie
-
-enum-told : tie.Need-enum-told
-enum-told c = search needs
-
-masks-requires : tie.Need-masks-requires
-masks-requires c κs = search needs
-
-enum-told-2 : tie.Need-enum-told-2
-enum-told-2 c = search needs
-
-masks-requires-2 : tie.Need-masks-requires-2
-masks-requires-2 c κs = search needs
-
-enum-told-3 : tie.Need-enum-told-3
-enum-told-3 c = search needs
-
-masks-requires-3 : tie.Need-masks-requires-3
-masks-requires-3 c κs = search needs
-
-returns : tie.Need-returns
-unfolding sheetOf rowOf
-returns c = record { answer = c .masks .ensures ∙ ap (λ (chip : Chip). masksIn (rowOf chip (c .before .before .before .args .position))) (sym (c .before .enum-told .given .1)) }
-
-returns-2 : tie.Need-returns-2
-unfolding sheetOf rowOf
-returns-2 c = record { answer = c .masks2 .ensures ∙ ap (λ (chip : Chip). masksIn (rowOf chip (c .before .before .before .args .position))) (sym (c .before .enum-told2 .given .1)) }
-
-returns-3 : tie.Need-returns-3
-unfolding sheetOf rowOf
-returns-3 c = record { answer = c .masks3 .ensures ∙ ap (λ (chip : Chip). masksIn (rowOf chip (c .before .before .before .args .position))) (sym (c .before .enum-told3 .given .1)) }
 
 pub masks-of-spec : {M : Type 1} → statement M
 masks-of-spec =
     tie.close
     (tie.spec
-    enum-told
-    masks-requires
-    enum-told-2
-    masks-requires-2
-    enum-told-3
-    masks-requires-3
-    returns
-    returns-2
-    returns-3)
+    (λ c. search needs)
+    (λ c κs. search needs)
+    (λ c. search needs)
+    (λ c κs. search needs)
+    (λ c. search needs)
+    (λ c κs. search needs)
+    (λ c. rw (c .before .enum-told .given .1) (record { answer = c .masks .ensures }))
+    (λ c. rw (c .before .enum-told2 .given .1) (record { answer = c .masks2 .ensures }))
+    (λ c. rw (c .before .enum-told3 .given .1) (record { answer = c .masks3 .ensures })))

@@ -3,45 +3,24 @@
 use Prim.Native.Nat.{ℕ}
 use native.Mathlib.Omega.{arith}
 use mathlib.Core.Path.{sym, ap, _∙_}
-use Rattle.cards.specs.Sheets.{registerIn}
-use Rattle.cards.specs.Nct7802y.{card, sheet}
-use Rattle.cards.proofs.Tables.{no-register}
 use borrow.Author.Needs.{needs}
+use Rattle.cards.specs.declared.types.Chip.the-variants.{Nct7802y}
+use Rattle.cards.specs.Nct7802y.{card}
+use Rattle.cards.specs.Sheets.{registerIn}
+use Rattle.cards.specs.Cards.{sheetOf}
+use Rattle.cards.proofs.Tables.{no-register}
 use Rattle.cards.proofs.nct7802y.register.Statement.{statement}
 use Rattle.cards.proofs.nct7802y.register.Tie as tie
 
-in-a-row-requires : tie.Need-in-a-row-requires
-in-a-row-requires c κs = search needs
-
-in-a-row-requires-2 : tie.Need-in-a-row-requires-2
-in-a-row-requires-2 c κs = search needs
-
-in-a-row-requires-3 : tie.Need-in-a-row-requires-3
-in-a-row-requires-3 c κs = search needs
-
-returns : tie.Need-returns
-unfolding card
-returns c = c .in-a-row .ensures ∙ ap (λ (number : ℕ). registerIn sheet number (c .before .before .args .k)) (sym (c .before .match .keys1))
-
-returns-2 : tie.Need-returns-2
-unfolding card
-returns-2 c = c .in-a-row2 .ensures ∙ ap (λ (number : ℕ). registerIn sheet number (c .before .before .args .k)) (sym (c .before .match .keys2))
-
-returns-3 : tie.Need-returns-3
-unfolding card
-returns-3 c = c .in-a-row3 .ensures ∙ ap (λ (number : ℕ). registerIn sheet number (c .before .before .args .k)) (sym (c .before .match .keys3))
-
-returns-4 : tie.Need-returns-4
-returns-4 c = sym (no-register sheet (c .before .args .number) (c .before .args .k) (λ p q. omega arith))
-
 pub register-spec : {M : Type 1} → statement M
+unfolding sheetOf card
 register-spec =
     tie.close
     (tie.spec
-    in-a-row-requires
-    in-a-row-requires-2
-    in-a-row-requires-3
-    returns
-    returns-2
-    returns-3
-    returns-4)
+    (λ c κs. search needs)
+    (λ c κs. search needs)
+    (λ c κs. search needs)
+    (λ c. c .in-a-row .ensures ∙ ap (λ (number : ℕ). registerIn (sheetOf Nct7802y) number (c .before .before .args .k)) (sym (c .before .match .keys1)))
+    (λ c. c .in-a-row2 .ensures ∙ ap (λ (number : ℕ). registerIn (sheetOf Nct7802y) number (c .before .before .args .k)) (sym (c .before .match .keys2)))
+    (λ c. c .in-a-row3 .ensures ∙ ap (λ (number : ℕ). registerIn (sheetOf Nct7802y) number (c .before .before .args .k)) (sym (c .before .match .keys3)))
+    (λ c. sym (no-register (sheetOf Nct7802y) (c .before .args .number) (c .before .args .k) (λ p q. omega arith))))
