@@ -15,7 +15,7 @@ use Rattle.cards.specs.declared.types.Register.{Register}
 use Rattle.cards.specs.Rows.{Table, masksIn, positions}
 use Rattle.cards.specs.Sheets.{missing}
 use Rattle.cards.specs.Cards.{rowOf, hasTable, tableOf, shapeOf}
-use Rattle.cards.proofs.Columns.{column-at}
+use Rattle.cards.proofs.Columns.{column-length, column-at}
 use Rattle.cards.proofs.Tables.{table-short, table-none, register-position, register-at}
 use Rattle.images.specs.Bytes.{storedAt, placed}
 use Rattle.curves.specs.declared.Plan.{Plan}
@@ -36,6 +36,9 @@ pub load-short : (chip : Chip) (plan : Plan) → Short (loadOf chip plan)
 load-short chip plan =
     let table = tableOf chip (plan .table) in
     record { registers = omega (arith, table-short chip (plan .table), length-append (table .settings) (table .speeds)) }
+
+pub body-long : (chip : Chip) (plan : Plan) {bytes : List ℕ} → bytes ≡ bytesOf chip plan → length bytes ≡ 14
+body-long chip plan e = ap length e ∙ column-length 14 (λ k. getD (body (plannedFor chip plan)) k 0)
 
 -- a load gives these pairs, by their places
 pub record Describes (l : Load) (bytes : List ℕ) (pairs : List Pair) : Type 0 where

@@ -17,7 +17,8 @@ pub fn script(plan: Plan, out: &mut [u8]) -> Count
         Admitted::Refused(refusal) => Count::Refused(refusal),
         Admitted::Known(chip) => {
             let load = making::load_of(chip, plan);
-            output::put_all(load, making::bytes_of(chip, plan), out)
+            let body = making::bytes_of(chip, plan);
+            output::put_all(load, &body, out)
         }
     }
 }
@@ -28,6 +29,7 @@ pub fn make(chip: Chip, plan: Plan, count: usize, image: &mut [u8]) -> usize
 {
     let load = making::load_of(chip, plan);
     let writes = playing::least(count, load.length());
-    playing::make_all(load, making::bytes_of(chip, plan), writes, image);
+    let body = making::bytes_of(chip, plan);
+    playing::make_all(load, &body, writes, image);
     writes
 }

@@ -5,6 +5,7 @@ use cards::Register;
 use curves::Plan;
 ghost use Prim.Native.Nat.{_<_};
 ghost use mathlib.Core.Path.{_≡_};
+ghost use lib.ListN.{length};
 ghost use Rattle.scripts.specs.Making.{Short, writesOf, placeAt, byteAt, writeAt, loadOf, bytesOf};
 
 // A fan table that is loaded: its chip and number, how many settings and speeds it has, and the full byte.
@@ -43,10 +44,11 @@ impl Load {
     }
 
     // The byte of the k-th write, from a plan's body.
-    fn byte(self, body: [u8; LONGEST], k: usize) -> u8
+    fn byte(self, body: &[u8], k: usize) -> u8
         requires { ⌜ Short self ⌝ }
+        requires { ⌜ length (now body) ≡ 14 ⌝ }
         requires { ⌜ k < writesOf self ⌝ }
-        ensures { λ r. ⌜ r ≡ byteAt self body k ⌝ }
+        ensures { λ r. ⌜ r ≡ byteAt self (now (body .entry)) k ⌝ }
     {
         if k < self.speeds {
             return self.full;
@@ -55,10 +57,11 @@ impl Load {
     }
 
     // The k-th write.
-    pub(crate) fn write(self, body: [u8; LONGEST], k: usize) -> Write
+    pub(crate) fn write(self, body: &[u8], k: usize) -> Write
         requires { ⌜ Short self ⌝ }
+        requires { ⌜ length (now body) ≡ 14 ⌝ }
         requires { ⌜ k < writesOf self ⌝ }
-        ensures { λ r. ⌜ r ≡ writeAt self body k ⌝ }
+        ensures { λ r. ⌜ r ≡ writeAt self (now (body .entry)) k ⌝ }
     {
         let chip = self.chip;
         Write {

@@ -1,7 +1,6 @@
 // A script's pairs in a lent buffer.
 use crate::making::Load;
 use crate::making::Write;
-use bodies::LONGEST;
 use refusal::Count;
 use refusal::Refusal;
 ghost use Prim.Native.Nat.{_+_, _<_};
@@ -21,9 +20,10 @@ fn put(write: Write, out: &mut [u8], at: usize) -> usize
     at + 2
 }
 
-pub(crate) fn put_all(load: Load, body: [u8; LONGEST], out: &mut [u8]) -> Count
+pub(crate) fn put_all(load: Load, body: &[u8], out: &mut [u8]) -> Count
     requires { ⌜ Short load ⌝ }
-    ensures { λ r. ⌜ Puts load body (now (out .entry)) r (now (out .exit)) ⌝ }
+    requires { ⌜ length (now body) ≡ 14 ⌝ }
+    ensures { λ r. ⌜ Puts load (now (body .entry)) (now (out .entry)) r (now (out .exit)) ⌝ }
 {
     let writes = load.length();
     if out.len() < 2 * writes {

@@ -1,8 +1,8 @@
 // A script's writes on a lent image, register by register.
 use crate::making::Load;
-use bodies::LONGEST;
 ghost use Prim.Native.Nat.{_≤_, min};
 ghost use mathlib.Core.Path.{_≡_};
+ghost use lib.ListN.{length};
 ghost use Rattle.scripts.specs.Making.{Short, writesOf, madeOf};
 
 pub(crate) fn least(a: usize, b: usize) -> usize
@@ -11,10 +11,11 @@ pub(crate) fn least(a: usize, b: usize) -> usize
     if a < b { a } else { b }
 }
 
-pub(crate) fn make_all(load: Load, body: [u8; LONGEST], writes: usize, image: &mut [u8])
+pub(crate) fn make_all(load: Load, body: &[u8], writes: usize, image: &mut [u8])
     requires { ⌜ Short load ⌝ }
+    requires { ⌜ length (now body) ≡ 14 ⌝ }
     requires { ⌜ writes ≤ writesOf load ⌝ }
-    ensures { λ r. ⌜ now (image .exit) ≡ madeOf load body writes (now (image .entry)) ⌝ }
+    ensures { λ r. ⌜ now (image .exit) ≡ madeOf load (now (body .entry)) writes (now (image .entry)) ⌝ }
 {
     for k in 0..writes {
         let write = load.write(body, k);

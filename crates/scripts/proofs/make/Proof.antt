@@ -7,7 +7,7 @@ use mathlib.Core.List.{List}
 use Rattle.curves.proofs.Owned.{plan-typed}
 use Rattle.scripts.specs.declared.making.Load.{Load}
 use Rattle.scripts.specs.Making.{writesOf, madeOf, Short}
-use Rattle.scripts.proofs.Prepared.{load-short}
+use Rattle.scripts.proofs.Prepared.{load-short, body-long}
 use Rattle.scripts.proofs.Answers.{made-script}
 use borrow.Author.Needs.{needs}
 use Rattle.scripts.proofs.make.Statement.{statement}
@@ -31,11 +31,15 @@ least-requires c κs = search needs
 bytes-of-requires : tie.Need-bytes-of-requires
 bytes-of-requires c κs = search needs
 
+slice-aggregate-make-all : tie.Need-slice-aggregate-make-all
+slice-aggregate-make-all c = search needs
+
 make-all-requires : tie.Need-make-all-requires
 make-all-requires c κs =
-    let chosen = c .before .before in
+    let chosen = c .before .before .before in
     let told = chosen .before in
-    (short (told .before), rw (chosen .least .ensures, told .length .ensures) (min-le-right _ _))
+    let a = told .before .before .before .args in
+    (short (told .before), (body-long (a .chip) (a .plan) (c .before .before .bytes-of .ensures), rw (chosen .least .ensures, told .length .ensures) (min-le-right _ _)))
 
 same-length : tie.Need-same-length
 same-length c = search needs
@@ -43,7 +47,7 @@ same-length c = search needs
 returns : tie.Need-returns
 returns c =
     let made = c .before .before in
-    let body = made .before .before in
+    let body = made .before .before .before in
     let chosen = body .before in
     let told = chosen .before in
     let load = told .before .load-of .ensures in
@@ -62,6 +66,7 @@ make-spec =
     length-requires
     least-requires
     bytes-of-requires
+    slice-aggregate-make-all
     make-all-requires
     same-length
     returns)

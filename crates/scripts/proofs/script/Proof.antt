@@ -10,7 +10,7 @@ use Rattle.plans.proofs.Laws.{refused-plan, accepted-plan, accepted-chip}
 use Rattle.scripts.specs.declared.making.Load.{Load}
 use Rattle.scripts.specs.Scripts.{scriptOf}
 use Rattle.scripts.specs.Making.{writesOf, pairsOf, Short}
-use Rattle.scripts.proofs.Prepared.{load-short, load-pairs}
+use Rattle.scripts.proofs.Prepared.{load-short, body-long, load-pairs}
 use Rattle.scripts.proofs.Answers.{script-refused, script-put}
 use borrow.Author.Needs.{needs}
 use Rattle.scripts.proofs.script.Statement.{statement}
@@ -31,12 +31,15 @@ load-of-requires c κs = search needs
 bytes-of-requires : tie.Need-bytes-of-requires
 bytes-of-requires c κs = search needs
 
+slice-aggregate-put-all : tie.Need-slice-aggregate-put-all
+slice-aggregate-put-all c = search needs
+
 put-all-requires : tie.Need-put-all-requires
 put-all-requires c κs =
-    let made = c .before .before in
+    let made = c .before .before .before in
     let known = made .before .before in
     let plan = known .before .before .before .before .args .plan in
-    subst Short (sym (made .load-of .ensures)) (load-short (known .chip .given .0 .0) plan)
+    (subst Short (sym (made .load-of .ensures)) (load-short (known .chip .given .0 .0) plan), body-long (known .chip .given .0 .0) plan (c .before .before .bytes-of .ensures))
 
 returns : tie.Need-returns
 returns c =
@@ -49,7 +52,7 @@ same-length c = search needs
 returns-2 : tie.Need-returns-2
 returns-2 c =
     let wrote = c .before .before in
-    let body = wrote .before .before in
+    let body = wrote .before .before .before in
     let made = body .before in
     let known = made .before .before in
     let asked = known .before .before in
@@ -72,6 +75,7 @@ script-spec =
     enum-known-chip
     load-of-requires
     bytes-of-requires
+    slice-aggregate-put-all
     put-all-requires
     returns
     same-length

@@ -19,7 +19,7 @@ length-requires : tie.Need-length-requires Inv-loop μ-loop
 length-requires c κs = search needs
 
 mul-if1 : tie.Need-mul-if1 Inv-loop μ-loop
-mul-if1 c = omega (arith, c .length .ensures, c .before .before .pre .registers)
+mul-if1 c = omega (arith, c .length .ensures, c .before .before .before .pre .0 .registers)
 
 returns : tie.Need-returns Inv-loop μ-loop
 returns c = put-none _ _ _ (omega (arith, c .if1 .taken, c .before .length .ensures))
@@ -30,14 +30,15 @@ loop-holds c = written-none _ _ _ (omega (arith, c .if1 .left, c .before .length
 write-requires : tie.Need-write-requires Inv-loop μ-loop
 write-requires c κs =
     let told = c .before .before .before in
-    (told .before .before .pre, omega (arith, c .loop-test .taken, told .length .ensures))
+    let start = told .before .before .before in
+    (start .pre .0, (start .pre .1, omega (arith, c .loop-test .taken, told .length .ensures)))
 
 put-requires : tie.Need-put-requires Inv-loop μ-loop
 put-requires c κs =
     let wrote = c .before in
     let turn = wrote .before in
-    let start = turn .before .before .before .before .before in (
-      subst (λ (w : Write). w .register .position < 256) (sym (wrote .write .ensures)) (write-address (start .args .load) (start .args .body) (turn .before .loop .k)),
+    let start = turn .before .before .before .before .before .before in (
+      subst (λ (w : Write). w .register .position < 256) (sym (wrote .write .ensures)) (write-address (start .args .load) (start .args .body .now) (turn .before .loop .k)),
       next-inside (turn .before .loop .inv) (omega (arith, turn .loop-test .taken, turn .before .before .before .length .ensures)),
     )
 

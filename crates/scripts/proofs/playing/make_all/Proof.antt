@@ -18,8 +18,8 @@ loop-holds c = made-none _ _ _ _
 
 write-requires : tie.Need-write-requires Inv-loop μ-loop
 write-requires c κs =
-    let start = c .before .before .before in
-    (start .pre .0, omega (arith, c .loop-test .taken, start .pre .1))
+    let start = c .before .before .before .before in
+    (start .pre .0, (start .pre .1 .0, omega (arith, c .loop-test .taken, start .pre .1 .1)))
 
 place-requires : tie.Need-place-requires Inv-loop μ-loop
 place-requires c κs = search needs

@@ -10,12 +10,12 @@ returns : tie.Need-returns
 unfolding byteAt
 returns c = rw (lt-ltb _ _ (c .if1 .taken))
 
-array-read-result : tie.Need-array-read-result
-array-read-result c = search needs
+shared-slice-read-result : tie.Need-shared-slice-read-result
+shared-slice-read-result c = search needs
 
 returns-2 : tie.Need-returns-2
 unfolding byteAt
-returns-2 c = rw (le-ltb _ _ (c .before .if1 .left))
+returns-2 c = rw (le-ltb _ _ (c .before .before .if1 .left))
 
 pub byte-spec : {M : Type 1} → statement M
-byte-spec = tie.close (tie.spec returns array-read-result returns-2)
+byte-spec = tie.close (tie.spec returns shared-slice-read-result returns-2)

@@ -18,7 +18,7 @@ byte-requires c κs = search needs
 
 returns : tie.Need-returns
 returns c =
-    let a = c .before .before .before .args in
+    let a = c .before .before .before .before .args in
     let register = c .before .register-of .ensures .answer ∙ ap (registerIn (sheetOf (a .self .chip)) (a .self .table)) (c .before .before .place .ensures) in
     λ i. record { register = register i; byte = c .byte .ensures i }
 
