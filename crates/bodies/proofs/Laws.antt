@@ -1,6 +1,6 @@
 -- A plan that comes out of a body names its chip and its table and has its arrays' lengths; a body and the plan in its bytes undo each other.
 -- Assumes nothing.
-use Prim.Native.Nat.{ℕ, _+_, _≤_, _<_}
+use Prim.Native.Nat.{ℕ, zero, suc, _+_, _≤_, _<_}
 use native.Mathlib.Omega.{arith}
 use mathlib.Core.Path.{_≡_, refl, sym, ap, ap₂, _∙_}
 use mathlib.Core.List.{List, [], _∷_, _++_}
@@ -112,3 +112,29 @@ own-temperatures Steps plan = refl
 pub own-speeds : (shape : Shape) (plan : Plan) → speedsInOrder shape (ownOf shape plan) ≡ speedsInOrder shape plan
 own-speeds (Slope full) plan = refl
 own-speeds Steps plan = refl
+
+-- a column that holds a body's bytes as far as the shape takes them decodes as they do
+module _ (bytes : List ℕ) (f : ℕ → ℕ) where
+  in-front : (first n : ℕ) → first + n ≤ 14 → ((k : ℕ) → k < first + n → f k ≡ getD bytes k 0)
+      → valuesAt (column 14 f) (from first n) ≡ valuesAt bytes (from first n)
+  in-front first zero h e = refl
+  in-front first (suc n) h e =
+      ap₂ (λ (b : ℕ) (l : List ℕ). b ∷ l) (column-at 14 f first (omega arith) ∙ e first (omega arith))
+      (in-front (suc first) n (omega arith) (λ k l. e k (omega arith)))
+
+  pub decoded-front : (shape : Shape) (chip table : ℕ) → ((k : ℕ) → k < room shape .0 + room shape .1 → f k ≡ getD bytes k 0)
+      → decoded shape chip table (column 14 f) ≡ decoded shape chip table bytes
+  decoded-front (Slope full) chip table e =
+      let temperatures = in-front 0 4 (omega arith) (λ k l. e k (omega arith)) in
+      let critical = column-at 14 f 4 (omega arith) ∙ e 4 (omega arith) in
+      let duties = in-front 5 4 (omega arith) (λ k l. e k (omega arith)) in
+      λ i. record {
+        chip = chip;
+        table = table;
+        slope = record { temperatures = temperatures i; critical = critical i; duties = duties i };
+        steps = noSteps;
+      }
+  decoded-front Steps chip table e =
+      let bounds = in-front 0 4 (omega arith) (λ k l. e k (omega arith)) in
+      let counts = in-front 4 10 (omega arith) (λ k l. e k (omega arith)) in
+      λ i. record { chip = chip; table = table; slope = noSlope; steps = record { bounds = bounds i; counts = words (counts i) } }

@@ -10,7 +10,7 @@ use Rattle.curves.specs.declared.Plan.{Plan}
 use Rattle.curves.specs.Planned.{planned}
 use Rattle.bodies.specs.Bodies.{body, decoded}
 
--- what `bodies::plan_of` promises. The bytes are only read, so they are what they were.
+-- what `bodies::plan_of` promises
 pub record Decodes (shape : Shape) (chip table : ℕ) (bytes : List ℕ) (plan : Plan) : Type 0 where
   pub answer : plan ≡ decoded shape chip table bytes
 

@@ -11,9 +11,9 @@ ghost use Rattle.bodies.specs.Contracts.{Decodes, EncodesBody};
 // No body has more bytes.
 pub const LONGEST: usize = 14;
 
-// The plan whose curve stands in a body's bytes. What a short body lacks counts as 0.
-pub fn plan_of(shape: Shape, chip: u8, table: u8, body: &[u8]) -> Plan
-    ensures { λ r. ⌜ Decodes shape chip table (now (body .entry)) r ⌝ }
+// The plan whose curve stands in a body's bytes.
+pub fn plan_of(shape: Shape, chip: u8, table: u8, body: [u8; LONGEST]) -> Plan
+    ensures { λ r. ⌜ Decodes shape chip table body r ⌝ }
 {
     match shape {
         Shape::Slope(_) => Plan {

@@ -11,8 +11,12 @@ use refusal::Count;
 use refusal::Outcome;
 use refusal::Refusal;
 ghost use mathlib.Core.Path.{_≡_};
-ghost use mathlib.Core.Bool.{So};
+ghost use Prim.Native.Nat.{_≤_};
+ghost use mathlib.Core.Bool.{So, cond};
 ghost use mathlib.Core.List.{_++_};
+ghost use lib.Dec.{ltb};
+ghost use lib.ListN.{length, getD};
+ghost use Rattle.cards.specs.Rows.{column};
 ghost use Rattle.cards.specs.Cards.{hasTable};
 ghost use Rattle.records.specs.Records.{header};
 ghost use Rattle.records.specs.Parts.{Refuses, Puts};
@@ -38,6 +42,19 @@ fn refused(refusal: Refusal) -> Found
     }
 }
 
+// The first bytes, and zeros behind them.
+fn body_in(bytes: &[u8], used: usize) -> [u8; LONGEST]
+    requires { ⌜ used ≤ 14 ⌝ }
+    requires { ⌜ used ≤ length (now bytes) ⌝ }
+    ensures { λ r. ⌜ r ≡ column 14 (λ k. cond (ltb k used) (getD (now (bytes .entry)) k 0) 0) ⌝ }
+{
+    let mut body = [0u8; LONGEST];
+    for k in 0..used {
+        body[k] = bytes[k];
+    }
+    body
+}
+
 // The plan of a chip, a table and the body that the bytes begin with, and how many of them it takes.
 pub fn plan_from(chip: u8, table: u8, bytes: &[u8]) -> Found
     ensures { λ r. ⌜ TakesBody chip table (now (bytes .entry)) r ⌝ }
@@ -55,7 +72,7 @@ pub fn plan_from(chip: u8, table: u8, bytes: &[u8]) -> Found
     let shape = layout.shape;
     Found {
         answer: Count::Of(length),
-        plan: bodies::plan_of(shape, chip, table, bytes),
+        plan: bodies::plan_of(shape, chip, table, body_in(bytes, length)),
     }
 }
 

@@ -53,9 +53,6 @@ returns c =
 held-requires : tie.Need-held-requires
 held-requires c κs = search needs
 
-slice-aggregate-plan-of : tie.Need-slice-aggregate-plan-of
-slice-aggregate-plan-of c = search needs
-
 plan-of-requires : tie.Need-plan-of-requires
 plan-of-requires c κs = search needs
 
@@ -74,7 +71,7 @@ returns-3 c =
 
 returns-4 : tie.Need-returns-4
 returns-4 c =
-    let h = c .before .before .before in
+    let h = c .before .before in
     let s = h .before .before .before in
     let l = s .before .before in
     let f = l .before .before in
@@ -110,7 +107,6 @@ asked-of-image-spec =
     sizes-of-requires
     returns
     held-requires
-    slice-aggregate-plan-of
     plan-of-requires
     speed-of-requires
     returns-2

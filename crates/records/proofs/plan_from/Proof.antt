@@ -2,20 +2,23 @@
 -- Assumes nothing.
 use Prim.Native.Nat.{ℕ, _+_, _<_}
 use native.Mathlib.Omega.{arith}
-use mathlib.Core.Path.{_≡_, sym, ap, _∙_}
+use mathlib.Core.Path.{_≡_, sym, ap, _∙_, ap₂}
 use mathlib.Core.Bool.{true}
 use mathlib.Core.List.{List}
 use borrow.Author.Needs.{needs}
 use borrow.Author.Tests.{lt-ltb}
-use lib.ListN.{length}
+use lib.ListN.{length, getD}
 use Rattle.cards.specs.declared.types.Chip.{Chip}
 use Rattle.cards.specs.declared.types.Named.the-variants.{Known}
 use Rattle.cards.specs.declared.types.Layout.{Layout}
-use Rattle.cards.specs.Cards.{chipOf, hasTable, layoutOf}
+use Rattle.cards.specs.Cards.{chipOf, hasTable, layoutOf, shapeOf}
 use Rattle.cards.proofs.Tables.{table-found, table-missed}
 use Rattle.bodies.specs.Bodies.{decoded}
 use Rattle.records.specs.Records.{bodyLength}
-use Rattle.records.proofs.Encoding.{body-of-table, length-short}
+use Rattle.cards.specs.Sheets.{room}
+use Rattle.bodies.proofs.Laws.{decoded-front}
+use Rattle.records.proofs.Front.{front}
+use Rattle.records.proofs.Encoding.{body-of-table, length-short, body-of-shape}
 use Rattle.records.proofs.Answers.{Whole, plan-refused, plan-accepted}
 use Rattle.records.proofs.plan_from.Statement.{statement}
 use Rattle.records.proofs.plan_from.Tie as tie
@@ -99,17 +102,29 @@ returns-3 c =
     let short : length (bytes l) < bodyLength (chip (known l)) = omega (arith, c .before .if1 .taken, long l) in
     plan-refused _ _ _ (c .refused3 .ensures) (rw (named (known l), found l .0, lt-ltb _ _ short))
 
+body-in-requires : tie.Need-body-in-requires
+body-in-requires c κs =
+    let l = c .before .before in
+    (omega (arith, long l, length-short (chip (known l))), c .if1 .left)
+
 plan-of-requires : tie.Need-plan-of-requires
 plan-of-requires c κs = search needs
 
 returns-4 : tie.Need-returns-4
 returns-4 c =
-    let l = c .before .before .before in
+    let taken = c .before in
+    let l = taken .before .before .before in
     let number = start (known l) .args .chip in
     let whole : Whole number (table l) (bytes l) =
-    record { chip = chip (known l); named = named (known l); has = found l .0; long = omega (arith, c .before .if1 .left, long l) } in
+    record { chip = chip (known l); named = named (known l); has = found l .0; long = omega (arith, taken .before .if1 .left, long l) } in
+    let shape = shapeOf (chip (known l)) (table l) in
+    let used = layout l .settings + layout l .speeds in
+    let in-body : (k : ℕ) → k < room shape .0 + room shape .1 → front (bytes l) used k ≡ getD (bytes l) k 0 =
+    λ k h. rw (lt-ltb k used (omega (arith, long l, body-of-shape (chip (known l)) (table l) (found l .0)))) in
     plan-accepted _ _ _ whole _ _ (long l)
-    (c .plan-of .ensures .answer ∙ ap (λ (laid : Layout). decoded (laid .shape) number (table l) (bytes l)) (found l .1))
+    (c .plan-of .ensures .answer
+    ∙ ap₂ (λ (laid : Layout) (body : List ℕ). decoded (laid .shape) number (table l) body) (found l .1) (taken .body-in .ensures)
+    ∙ decoded-front (bytes l) (front (bytes l) used) shape number (table l) in-body)
 
 pub plan-from-spec : {M : Type 1} → statement M
 plan-from-spec =
@@ -128,5 +143,6 @@ plan-from-spec =
     add-length
     refused-requires-3
     returns-3
+    body-in-requires
     plan-of-requires
     returns-4)

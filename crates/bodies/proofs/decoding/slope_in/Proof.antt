@@ -7,14 +7,14 @@ use Rattle.bodies.proofs.decoding.slope_in.Tie as tie
 four-at-requires : tie.Need-four-at-requires
 four-at-requires c κs = search needs
 
-byte-at-requires : tie.Need-byte-at-requires
-byte-at-requires c κs = search needs
+array-read-t7 : tie.Need-array-read-t7
+array-read-t7 c = search needs
 
 four-at-requires-2 : tie.Need-four-at-requires-2
 four-at-requires-2 c κs = search needs
 
 returns : tie.Need-returns
-returns c = rw (c .before .before .four-at .ensures, c .before .byte-at .ensures, c .four-at2 .ensures)
+returns c = rw (c .before .four-at .ensures, c .four-at2 .ensures)
 
 pub slope-in-spec : {M : Type 1} → statement M
-slope-in-spec = tie.close (tie.spec four-at-requires byte-at-requires four-at-requires-2 returns)
+slope-in-spec = tie.close (tie.spec four-at-requires array-read-t7 four-at-requires-2 returns)
