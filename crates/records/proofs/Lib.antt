@@ -1,4 +1,3 @@
-pub mod Front
 pub mod Answers
 pub mod Unique
 pub mod Encoding

@@ -2,8 +2,10 @@
 -- Assumes nothing.
 use Prim.Native.Nat.{ℕ}
 use mathlib.Core.Path.{_≡_}
+use mathlib.Core.Bool.{cond}
 use mathlib.Core.List.{List, _++_}
-use lib.ListN.{length, drop}
+use lib.Dec.{ltb}
+use lib.ListN.{length, getD, drop}
 use Rattle.refusal.specs.declared.Refusal.{Refusal}
 use Rattle.refusal.specs.declared.Count.{Count}
 use Rattle.refusal.specs.declared.Count.the-variants as counted
@@ -18,6 +20,10 @@ use Rattle.records.specs.Records.{recordOf, noPlan}
 pub record Refuses (refusal : Refusal) (r : Found) : Type 0 where
   pub answer : r .answer ≡ counted.Refused refusal
   pub plan : r .plan ≡ noPlan
+
+-- the first n bytes of some, and zeros behind them
+abbrev pub front : ℕ → List ℕ → ℕ → ℕ
+front n bytes k = cond (ltb k n) (getD bytes k 0) 0
 
 -- the record of a chip's plan at the front of a buffer, or nothing
 pub record Puts (chip : Chip) (plan : Plan) (old : List ℕ) (r : Count) (new : List ℕ) : Type 0 where

@@ -3,6 +3,7 @@ use bodies::LONGEST;
 use cards::Chip;
 use cards::Fan;
 use cards::Named;
+use cards::Shape;
 use curves::NO_SLOPE;
 use curves::NO_STEPS;
 use curves::Plan;
@@ -11,15 +12,15 @@ use refusal::Count;
 use refusal::Outcome;
 use refusal::Refusal;
 ghost use mathlib.Core.Path.{_≡_};
-ghost use Prim.Native.Nat.{_≤_};
-ghost use mathlib.Core.Bool.{So, cond};
+ghost use Prim.Native.Nat.{_+_, _≤_};
+ghost use mathlib.Core.Bool.{So};
 ghost use mathlib.Core.List.{_++_};
-ghost use lib.Dec.{ltb};
-ghost use lib.ListN.{length, getD};
+ghost use lib.ListN.{length};
 ghost use Rattle.cards.specs.Rows.{column};
+ghost use Rattle.cards.specs.Sheets.{room};
 ghost use Rattle.cards.specs.Cards.{hasTable};
 ghost use Rattle.records.specs.Records.{header};
-ghost use Rattle.records.specs.Parts.{Refuses, Puts};
+ghost use Rattle.records.specs.Parts.{Refuses, front, Puts};
 ghost use Rattle.records.specs.Contracts.{TakesBody, ReadsRecord, WritesRecord};
 
 // What is read: the bytes used, and the plan, which is all zeros where the record is refused.
@@ -42,17 +43,60 @@ fn refused(refusal: Refusal) -> Found
     }
 }
 
-// The first bytes, and zeros behind them.
-fn body_in(bytes: &[u8], used: usize) -> [u8; LONGEST]
-    requires { ⌜ used ≤ 14 ⌝ }
-    requires { ⌜ used ≤ length (now bytes) ⌝ }
-    ensures { λ r. ⌜ r ≡ column 14 (λ k. cond (ltb k used) (getD (now (bytes .entry)) k 0) 0) ⌝ }
+// The body of a slope that the bytes begin with, and zeros behind it.
+fn slope_body(bytes: &[u8]) -> [u8; LONGEST]
+    requires { ⌜ 9 ≤ length (now bytes) ⌝ }
+    ensures { λ r. ⌜ r ≡ column 14 (front 9 (now (bytes .entry))) ⌝ }
 {
-    let mut body = [0u8; LONGEST];
-    for k in 0..used {
-        body[k] = bytes[k];
+    [
+        bytes[0],
+        bytes[1],
+        bytes[2],
+        bytes[3],
+        bytes[4],
+        bytes[5],
+        bytes[6],
+        bytes[7],
+        bytes[8],
+        0,
+        0,
+        0,
+        0,
+        0,
+    ]
+}
+
+// The body of steps.
+fn steps_body(bytes: &[u8]) -> [u8; LONGEST]
+    requires { ⌜ 14 ≤ length (now bytes) ⌝ }
+    ensures { λ r. ⌜ r ≡ column 14 (front 14 (now (bytes .entry))) ⌝ }
+{
+    [
+        bytes[0],
+        bytes[1],
+        bytes[2],
+        bytes[3],
+        bytes[4],
+        bytes[5],
+        bytes[6],
+        bytes[7],
+        bytes[8],
+        bytes[9],
+        bytes[10],
+        bytes[11],
+        bytes[12],
+        bytes[13],
+    ]
+}
+
+fn body_in(shape: Shape, bytes: &[u8]) -> [u8; LONGEST]
+    requires { ⌜ room shape .0 + room shape .1 ≤ length (now bytes) ⌝ }
+    ensures { λ r. ⌜ r ≡ column 14 (front (room shape .0 + room shape .1) (now (bytes .entry))) ⌝ }
+{
+    match shape {
+        Shape::Slope(_) => slope_body(bytes),
+        Shape::Steps => steps_body(bytes),
     }
-    body
 }
 
 // The plan of a chip, a table and the body that the bytes begin with, and how many of them it takes.
@@ -72,7 +116,7 @@ pub fn plan_from(chip: u8, table: u8, bytes: &[u8]) -> Found
     let shape = layout.shape;
     Found {
         answer: Count::Of(length),
-        plan: bodies::plan_of(shape, chip, table, body_in(bytes, length)),
+        plan: bodies::plan_of(shape, chip, table, body_in(shape, bytes)),
     }
 }
 

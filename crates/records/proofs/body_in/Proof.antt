@@ -1,52 +1,37 @@
--- `body_in` meets its contract: the places passed hold the first bytes, and the others zero.
+-- `body_in` meets its contract: each arm takes as many bytes as its shape has.
 -- Assumes nothing.
-use Prim.Native.Nat.{_-_}
-use native.Mathlib.Omega.{arith}
-use mathlib.Core.Path.{refl}
+use Prim.Native.Nat.{ℕ, _+_, _≤_}
+use mathlib.Core.Path.{subst}
+use lib.ListN.{length}
+use Rattle.cards.specs.declared.types.Shape.{Shape}
+use Rattle.cards.specs.Sheets.{room}
 use borrow.Author.Needs.{needs}
-use Rattle.records.proofs.Front.{Taken-in, taken-none, taken-more, taken-all}
 use Rattle.records.proofs.body_in.Statement.{statement}
 use Rattle.records.proofs.body_in.Tie as tie
 
-abbrev Inv-loop : tie.InvT-loop
-Inv-loop bytes used body₀ k₀ body k = Taken-in bytes used body k
+enum-told : tie.Need-enum-told
+enum-told c = search needs
 
-abbrev μ-loop : tie.MeasureT-loop
-μ-loop bytes used body₀ k₀ body k = used - k
+slope-body-requires : tie.Need-slope-body-requires
+slope-body-requires c κs =
+    let start = c .before .before .before in
+    subst (λ (s : Shape). room s .0 + room s .1 ≤ length (start .args .bytes .now)) (c .enum-told .given .1) (start .pre)
 
-loop-holds : tie.Need-loop-holds Inv-loop μ-loop
-loop-holds c = taken-none _ _
+enum-told-2 : tie.Need-enum-told-2
+enum-told-2 c = search needs
 
-shared-slice-read-body : tie.Need-shared-slice-read-body Inv-loop μ-loop
-shared-slice-read-body c = omega (arith, c .before .loop-test .taken, c .before .before .before .pre .1)
+steps-body-requires : tie.Need-steps-body-requires
+steps-body-requires c κs =
+    let start = c .before .before .before in
+    subst (λ (s : Shape). room s .0 + room s .1 ≤ length (start .args .bytes .now)) (c .enum-told2 .given .1) (start .pre)
 
-array-write-body : tie.Need-array-write-body Inv-loop μ-loop
-array-write-body c = omega (arith, c .before .loop-test .taken, c .before .before .before .pre .0)
+returns : tie.Need-returns
+returns c = rw (c .before .enum-told .given .1) (c .slope-body .ensures)
 
-add-k : tie.Need-add-k Inv-loop μ-loop
-add-k c = search needs
-
-loop-less : tie.Need-loop-less Inv-loop μ-loop
-loop-less c = search needs
-
-loop-again : tie.Need-loop-again Inv-loop μ-loop
-loop-again c =
-    let turn = c .before in
-    taken-more _ (turn .before .loop .inv) (turn .loop-test .taken) (turn .before .before .pre .0) refl
-
-returns : tie.Need-returns Inv-loop μ-loop
-returns c = taken-all (c .before .loop .inv) (c .loop-test .left)
+returns-2 : tie.Need-returns-2
+returns-2 c = rw (c .before .enum-told2 .given .1) (c .steps-body .ensures)
 
 pub body-in-spec : {M : Type 1} → statement M
 body-in-spec =
     tie.close
-    (tie.spec
-    Inv-loop
-    μ-loop
-    loop-holds
-    shared-slice-read-body
-    array-write-body
-    add-k
-    loop-less
-    loop-again
-    returns)
+    (tie.spec enum-told slope-body-requires enum-told-2 steps-body-requires returns returns-2)

@@ -1,8 +1,8 @@
 -- `records::plan_from` meets its contract: each answer knows how the tests before it ended.
 -- Assumes nothing.
-use Prim.Native.Nat.{ℕ, _+_, _<_}
+use Prim.Native.Nat.{ℕ, _+_, _<_, _≤_}
 use native.Mathlib.Omega.{arith}
-use mathlib.Core.Path.{_≡_, sym, ap, _∙_, ap₂}
+use mathlib.Core.Path.{_≡_, sym, ap, _∙_, ap₂, subst}
 use mathlib.Core.Bool.{true}
 use mathlib.Core.List.{List}
 use borrow.Author.Needs.{needs}
@@ -15,9 +15,10 @@ use Rattle.cards.specs.Cards.{chipOf, hasTable, layoutOf, shapeOf}
 use Rattle.cards.proofs.Tables.{table-found, table-missed}
 use Rattle.bodies.specs.Bodies.{decoded}
 use Rattle.records.specs.Records.{bodyLength}
+use Rattle.cards.specs.Rows.{column}
 use Rattle.cards.specs.Sheets.{room}
 use Rattle.bodies.proofs.Laws.{decoded-front}
-use Rattle.records.proofs.Front.{front}
+use Rattle.records.specs.Parts.{front}
 use Rattle.records.proofs.Encoding.{body-of-table, length-short, body-of-shape}
 use Rattle.records.proofs.Answers.{Whole, plan-refused, plan-accepted}
 use Rattle.records.proofs.plan_from.Statement.{statement}
@@ -54,6 +55,9 @@ found c = table-found _ (c .before .before .before .table-of .ensures) (c .befor
 
 long : (c : Laid) → layout c .settings + layout c .speeds ≡ bodyLength (chip (known c))
 long c = ap (λ (l : Layout). l .settings + l .speeds) (found c .1) ∙ body-of-table (chip (known c)) (table c) (found c .0)
+
+as-long : (c : Laid) → room (shapeOf (chip (known c)) (table c)) .0 + room (shapeOf (chip (known c)) (table c)) .1 ≡ bodyLength (chip (known c))
+as-long c = body-of-shape (chip (known c)) (table c) (found c .0)
 
 chip-of-requires : tie.Need-chip-of-requires
 chip-of-requires c κs = search needs
@@ -105,7 +109,7 @@ returns-3 c =
 body-in-requires : tie.Need-body-in-requires
 body-in-requires c κs =
     let l = c .before .before in
-    (omega (arith, long l, length-short (chip (known l))), c .if1 .left)
+    subst (λ (laid : Layout). room (laid .shape) .0 + room (laid .shape) .1 ≤ length (bytes l)) (sym (found l .1)) (omega (arith, c .if1 .left, long l, as-long l))
 
 plan-of-requires : tie.Need-plan-of-requires
 plan-of-requires c κs = search needs
@@ -118,13 +122,12 @@ returns-4 c =
     let whole : Whole number (table l) (bytes l) =
     record { chip = chip (known l); named = named (known l); has = found l .0; long = omega (arith, taken .before .if1 .left, long l) } in
     let shape = shapeOf (chip (known l)) (table l) in
-    let used = layout l .settings + layout l .speeds in
-    let in-body : (k : ℕ) → k < room shape .0 + room shape .1 → front (bytes l) used k ≡ getD (bytes l) k 0 =
-    λ k h. rw (lt-ltb k used (omega (arith, long l, body-of-shape (chip (known l)) (table l) (found l .0)))) in
+    let used = room shape .0 + room shape .1 in
     plan-accepted _ _ _ whole _ _ (long l)
     (c .plan-of .ensures .answer
-    ∙ ap₂ (λ (laid : Layout) (body : List ℕ). decoded (laid .shape) number (table l) body) (found l .1) (taken .body-in .ensures)
-    ∙ decoded-front (bytes l) (front (bytes l) used) shape number (table l) in-body)
+    ∙ ap (decoded (layout l .shape) number (table l)) (taken .body-in .ensures)
+    ∙ ap (λ (laid : Layout). decoded (laid .shape) number (table l) (column 14 (front (room (laid .shape) .0 + room (laid .shape) .1) (bytes l)))) (found l .1)
+    ∙ decoded-front (bytes l) (front used (bytes l)) shape number (table l) (λ k h. rw (lt-ltb k used h)))
 
 pub plan-from-spec : {M : Type 1} → statement M
 plan-from-spec =

@@ -1,0 +1,26 @@
+-- `slope_body` meets its contract: each place holds the byte of its number, and zero behind the ninth.
+-- Assumes nothing.
+use mathlib.Core.Path.{refl}
+use borrow.Author.Needs.{needs}
+use Rattle.cards.specs.Rows.{column}
+use Rattle.records.proofs.slope_body.Statement.{statement}
+use Rattle.records.proofs.slope_body.Tie as tie
+
+returns : tie.Need-returns
+unfolding column
+returns c = refl
+
+pub slope-body-spec : {M : Type 1} → statement M
+slope-body-spec =
+    tie.close
+    (tie.spec
+    (λ c. search needs)
+    (λ c. search needs)
+    (λ c. search needs)
+    (λ c. search needs)
+    (λ c. search needs)
+    (λ c. search needs)
+    (λ c. search needs)
+    (λ c. search needs)
+    (λ c. search needs)
+    returns)
