@@ -8,8 +8,8 @@ use mathlib.Core.List.{List, [], _∷_}
 use borrow.Author.Tests.{ltb-true, ne-eqb}
 use lib.Dec.{ltb}
 use Rattle.refusal.specs.declared.Outcome.{Outcome}
-use Rattle.refusal.specs.declared.Count.{Count}
-use Rattle.refusal.specs.Answers.{tells, tellsCount}
+use Rattle.refusal.specs.declared.Amount.{Amount}
+use Rattle.refusal.specs.Answers.{tells, tellsAmount}
 use Rattle.refusal.specs.Checks.{Check, first, toldOr, told, left}
 use Rattle.refusal.proofs.Passed.{none-told, all-left}
 use Rattle.curves.specs.declared.Plan.{Plan}
@@ -34,13 +34,13 @@ never-refused none value = record { number = refl; zero = λ some. absurd (some 
 pub verdict-answered : (r : Outcome) (checks : List Check) → tells r ≡ first checks → Answered checks tt (verdict r)
 verdict-answered r checks e = record { number = e; zero = λ some. refl }
 
-pub count-answered : (r : Count) (checks : List Check) (value : ℕ) (held : List ℕ) {old new : List ℕ} → tellsCount r ≡ told checks value → new ≡ left checks held old
-    → Answered checks 0 (tellsCount r) × Kept (tellsCount r .0) old new
+pub count-answered : (r : Amount) (checks : List Check) (value : ℕ) (held : List ℕ) {old new : List ℕ} → tellsAmount r ≡ told checks value → new ≡ left checks held old
+    → Answered checks 0 (tellsAmount r) × Kept (tellsAmount r .0) old new
 count-answered r checks value held e l =
     let A = told-answered 0 value checks e in
     (A, left-kept checks held (A .number) l)
 
-pub found-answered : (checks : List Check) (count : ℕ) (plan : Plan) (r : Found) → tellsCount (r .answer) ≡ toldOr 0 checks count
+pub found-answered : (checks : List Check) (count : ℕ) (plan : Plan) (r : Found) → tellsAmount (r .answer) ≡ toldOr 0 checks count
     → r .plan ≡ toldOr noPlan checks plan .1 → Answered checks (0, noPlan) (tellsFound r)
 found-answered checks count plan r e p =
     let A = told-answered 0 count checks e in
@@ -99,21 +99,21 @@ packed-verdict a checks r held t e l p = (
   packed-kept checks (tells a) 0 r t e p (left-kept checks held e l),
 )
 
-pub packed-count : (a : Count) (checks : List Check) (value r : ℕ) (held : List ℕ) {old new : List ℕ} → So (small checks) → tellsCount a ≡ told checks value
-    → new ≡ left checks held old → r ≡ packed (tellsCount a .0) (tellsCount a .1) → Answered checks 0 (unpacked r) × Kept (unpacked r .0) old new
+pub packed-count : (a : Amount) (checks : List Check) (value r : ℕ) (held : List ℕ) {old new : List ℕ} → So (small checks) → tellsAmount a ≡ told checks value
+    → new ≡ left checks held old → r ≡ packed (tellsAmount a .0) (tellsAmount a .1) → Answered checks 0 (unpacked r) × Kept (unpacked r .0) old new
 packed-count a checks value r held t e l p =
     let C = count-answered a checks value held e l in (
-      packed-answered (λ n. n) checks 0 (tellsCount a) t (C .0) p,
-      packed-kept checks (tellsCount a .0) (tellsCount a .1) r t (C .0 .number) p (C .1),
+      packed-answered (λ n. n) checks 0 (tellsAmount a) t (C .0) p,
+      packed-kept checks (tellsAmount a .0) (tellsAmount a .1) r t (C .0 .number) p (C .1),
     )
 
 -- the bytes used, the chip and the table of a record that is refused are 0
-pub used-answered : (checks : List Check) (f : Found) (r : ℕ) → So (small checks) → tellsCount (f .answer) .0 ≡ first checks → r ≡ packsFound f
+pub used-answered : (checks : List Check) (f : Found) (r : ℕ) → So (small checks) → tellsAmount (f .answer) .0 ≡ first checks → r ≡ packsFound f
     → Answered checks 0 (unpacked r)
 used-answered checks f r t number e =
-    let parts = crossing (tellsCount (f .answer) .0) _ r (rw number (first-small checks t)) e in
+    let parts = crossing (tellsAmount (f .answer) .0) _ r (rw number (first-small checks t)) e in
     let same = ap (λ (p : ℕ × ℕ). p .0) parts in
     record {
       number = same ∙ number;
-      zero = λ some. ap (λ (p : ℕ × ℕ). p .1) parts ∙ (rw (ne-eqb (tellsCount (f .answer) .0) 0 (λ z. some (same ∙ z))));
+      zero = λ some. ap (λ (p : ℕ × ℕ). p .1) parts ∙ (rw (ne-eqb (tellsAmount (f .answer) .0) 0 (λ z. some (same ∙ z))));
     }

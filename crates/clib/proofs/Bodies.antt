@@ -6,10 +6,10 @@ use mathlib.Core.Path.{_≡_, ap, sym, _∙_}
 use mathlib.Core.List.{List, _++_}
 use lib.ListN.{length}
 use Rattle.refusal.specs.declared.Refusal.{Refusal}
-use Rattle.refusal.specs.declared.Count.{Count}
-use Rattle.refusal.specs.declared.Count.the-variants as counted
+use Rattle.refusal.specs.declared.Amount.{Amount}
+use Rattle.refusal.specs.declared.Amount.the-variants as amount
 use Rattle.refusal.specs.Refusals.{numberOf}
-use Rattle.refusal.specs.Answers.{tellsCount}
+use Rattle.refusal.specs.Answers.{tellsAmount}
 use Rattle.refusal.specs.Checks.{Check, first, roomChecks}
 use Rattle.refusal.proofs.Numbers.{numberOf-positive}
 use Rattle.refusal.proofs.Passed.{first-refused, told-refused, when-refused, same-told, same-left}
@@ -31,9 +31,9 @@ use Rattle.plays.specs.Contracts.{startChecks, playChecks, Plays, PlaysBy}
 use Rattle.clib.specs.Bodies.{writeBodyChecks, scriptBodyChecks, playBodyChecks}
 
 -- a body that is refused
-module _ (chip table : ℕ) (body : List ℕ) (refusal : Refusal) (found : Found) (P : TakesBody chip table body found) (e : found .answer ≡ counted.Refused refusal) where
+module _ (chip table : ℕ) (body : List ℕ) (refusal : Refusal) (found : Found) (P : TakesBody chip table body found) (e : found .answer ≡ amount.Refused refusal) where
   pub body-refused : numberOf refusal ≡ first (bodyChecks chip table body)
-  body-refused = ap (λ (t : ℕ × ℕ). t .0) (ap tellsCount (sym e) ∙ P .answer)
+  body-refused = ap (λ (t : ℕ × ℕ). t .0) (ap tellsAmount (sym e) ∙ P .answer)
 
   -- the call's further checks are not asked
   by-all : (more : List Check) → numberOf refusal ≡ first (bodyPlanChecks chip table body ++ more)
@@ -45,18 +45,18 @@ module _ (chip table : ℕ) (body : List ℕ) (refusal : Refusal) (found : Found
   pub asks-refused : (t : ℕ) → AsksPlanBy (bodyChecks chip table body) (planOf chip table body) t (asked.Refused refusal)
   asks-refused t = record { answer = told-refused refusal (bodyChecks chip table body) _ body-refused }
 
-  pub write-refused : (old : List ℕ) → WritesRecordBy (writeBodyChecks chip table body old) (planOf chip table body) old (counted.Refused refusal) old
+  pub write-refused : (old : List ℕ) → WritesRecordBy (writeBodyChecks chip table body old) (planOf chip table body) old (amount.Refused refusal) old
   write-refused old =
       let all = by-all (roomChecks (length (encoded (planOf chip table body))) old) in
       record { answer = told-refused refusal (writeBodyChecks chip table body old) _ all; bytes = when-refused refusal _ old all }
 
-  pub script-refused : (old : List ℕ) → ScriptsBy (scriptBodyChecks chip table body old) (planOf chip table body) old (counted.Refused refusal) old
+  pub script-refused : (old : List ℕ) → ScriptsBy (scriptBodyChecks chip table body old) (planOf chip table body) old (amount.Refused refusal) old
   script-refused old =
       let all = by-all (roomChecks (2 * length (scriptFor (planOf chip table body))) old) in
       record { answer = told-refused refusal (scriptBodyChecks chip table body old) _ all; bytes = when-refused refusal _ old all }
 
   pub play-refused : (old : List ℕ) (count : ℕ)
-      → PlaysBy (playBodyChecks chip table body old) (planOf chip table body) old count (counted.Refused refusal) old
+      → PlaysBy (playBodyChecks chip table body old) (planOf chip table body) old count (amount.Refused refusal) old
   play-refused old count =
       let all = by-all (startChecks (planOf chip table body) old) in
       record { answer = told-refused refusal (playBodyChecks chip table body old) _ all; bytes = when-refused refusal _ old all }
@@ -68,7 +68,7 @@ pub record Crossed (chip table : ℕ) (body : List ℕ) (plan : Plan) : Type 0 w
   pub asks : first (askPlanChecks (planOf chip table body)) ≡ first (bodyChecks chip table body)
   pub checks : (more : List Check) → first (planChecks (planOf chip table body) ++ more) ≡ first (bodyPlanChecks chip table body ++ more)
 
-pub crossed : (chip table : ℕ) (body : List ℕ) (n : ℕ) (found : Found) → TakesBody chip table body found → found .answer ≡ counted.Of n
+pub crossed : (chip table : ℕ) (body : List ℕ) (n : ℕ) (found : Found) → TakesBody chip table body found → found .answer ≡ amount.Of n
     → Crossed chip table body (found .plan)
 crossed chip table body n found P e =
     let T = plan-taken chip table body n found P e in
@@ -92,7 +92,7 @@ module _ (chip table : ℕ) (body : List ℕ) {plan : Plan} (C : Crossed chip ta
       let q : AsksPlan its t r = rw (C .same) at p in
       record { answer = q .answer ∙ same-told 0 _ (askPlanChecks its) (bodyChecks chip table body) (C .asks) }
 
-  pub write-crossed : {old new : List ℕ} {r : Count} → WritesRecord plan old r new → WritesRecordBy (writeBodyChecks chip table body old) its old r new
+  pub write-crossed : {old new : List ℕ} {r : Amount} → WritesRecord plan old r new → WritesRecordBy (writeBodyChecks chip table body old) its old r new
   write-crossed {old} {new} {r} p =
       let q : WritesRecord its old r new = rw (C .same) at p in
       let e = C .checks (roomChecks (length (encoded its)) old) in
@@ -101,7 +101,7 @@ module _ (chip table : ℕ) (body : List ℕ) {plan : Plan} (C : Crossed chip ta
         bytes = q .bytes ∙ same-left _ old (writeChecks its old) (writeBodyChecks chip table body old) e;
       }
 
-  pub script-crossed : {old new : List ℕ} {r : Count} → Scripts plan old r new → ScriptsBy (scriptBodyChecks chip table body old) its old r new
+  pub script-crossed : {old new : List ℕ} {r : Amount} → Scripts plan old r new → ScriptsBy (scriptBodyChecks chip table body old) its old r new
   script-crossed {old} {new} {r} p =
       let q : Scripts its old r new = rw (C .same) at p in
       let e = C .checks (roomChecks (2 * length (scriptFor its)) old) in
@@ -110,7 +110,7 @@ module _ (chip table : ℕ) (body : List ℕ) {plan : Plan} (C : Crossed chip ta
         bytes = q .bytes ∙ same-left _ old (scriptChecks its old) (scriptBodyChecks chip table body old) e;
       }
 
-  pub play-crossed : {old new : List ℕ} {count : ℕ} {r : Count} → Plays plan old count r new
+  pub play-crossed : {old new : List ℕ} {count : ℕ} {r : Amount} → Plays plan old count r new
       → PlaysBy (playBodyChecks chip table body old) its old count r new
   play-crossed {old} {new} {count} {r} p =
       let q : Plays its old count r new = rw (C .same) at p in

@@ -41,7 +41,7 @@ use Rattle.plans.specs.Contracts.{planChecks, Accepts}
 use Rattle.plans.proofs.Laws.{accepted-plan, refused-plan}
 use Rattle.records.proofs.RoundTrip.{read-written, written-read}
 use Rattle.scripts.specs.Scripts.{scriptOf}
-use Rattle.scripts.specs.Plays.{played}
+use Rattle.scripts.specs.Played.{played}
 use Rattle.clib.specs.Facts.{factsOf}
 use Rattle.clib.specs.Demands.{Answered, Demand1, Demand2}
 use Rattle.clib.proofs.Answered.{told-answered, left-kept, verdict-answered, count-answered, found-answered, never-refused, packed-answered, packed-verdict, packed-count, used-answered}

@@ -8,8 +8,8 @@ use mathlib.Core.Bool.{Bool, true, false, cond}
 use mathlib.Core.List.{List, [], _∷_, _++_}
 use lib.Dec.{eqb}
 use lib.ListN.{length}
-use Rattle.refusal.specs.declared.Count.{Count}
-use Rattle.refusal.specs.Answers.{tellsCount}
+use Rattle.refusal.specs.declared.Amount.{Amount}
+use Rattle.refusal.specs.Answers.{tellsAmount}
 use Rattle.refusal.specs.Checks.{Check, first, told, roomChecks}
 use Rattle.cards.specs.declared.types.Chip.{Chip}
 use Rattle.cards.specs.declared.types.Named.{Named}
@@ -51,19 +51,19 @@ used-within bytes = by-name (chipOf (chipNumberIn bytes))
     by-name Unknown = omega arith
 
 -- so what a call counts has room above the refusal number
-pub record-room : {plan : Plan} {old new : List ℕ} {r : Count} → Sized plan → WritesRecord plan old r new → tellsCount r .1 < 2 ^ 56
+pub record-room : {plan : Plan} {old new : List ℕ} {r : Amount} → Sized plan → WritesRecord plan old r new → tellsAmount r .1 < 2 ^ 56
 record-room {plan} {old} sized p =
     told-within (writeChecks plan old) (length (encoded plan)) (2 ^ 56) (omega (arith, record-short plan sized)) (p .answer)
 
-pub script-room : {plan : Plan} {old new : List ℕ} {r : Count} → Scripts plan old r new → tellsCount r .1 < 2 ^ 56
+pub script-room : {plan : Plan} {old new : List ℕ} {r : Amount} → Scripts plan old r new → tellsAmount r .1 < 2 ^ 56
 script-room {plan} {old} p =
     told-within (scriptChecks plan old) (length (scriptFor plan)) (2 ^ 56) (omega (arith, script-within plan)) (p .answer)
 
-pub play-room : {plan : Plan} {count : ℕ} {old new : List ℕ} {r : Count} → Plays plan old count r new → tellsCount r .1 < 2 ^ 56
+pub play-room : {plan : Plan} {count : ℕ} {old new : List ℕ} {r : Amount} → Plays plan old count r new → tellsAmount r .1 < 2 ^ 56
 play-room {plan} {count} {old} p =
     told-within (playChecks plan old) (min count (length (scriptFor plan))) (2 ^ 56)
     (omega (arith, script-within plan, min-le-right count (length (scriptFor plan)))) (p .answer)
 
-pub text-room : {input old new : List ℕ} {r : Count} → Translates input old r new → tellsCount r .1 < 2 ^ 56
+pub text-room : {input old new : List ℕ} {r : Amount} → Translates input old r new → tellsAmount r .1 < 2 ^ 56
 text-room {input} {old} p =
     told-within (roomChecks (length (textOf input)) old) (length (textOf input)) (2 ^ 56) (omega (arith, text-short input)) (p .answer)

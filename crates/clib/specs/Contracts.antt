@@ -15,7 +15,7 @@ use Rattle.plays.specs.Contracts as plays
 use Rattle.translation.specs.Contracts as translation
 use Rattle.clib.specs.Facts.{watchOf}
 use Rattle.clib.specs.Bodies.{writeBodyChecks, scriptBodyChecks, playBodyChecks}
-use Rattle.clib.specs.Packed.{packed, packsOutcome, packsCount, packsByte, packsAsked, packsBytes, packsSteps, packsWatch, packsSampled, packsFound, Answers}
+use Rattle.clib.specs.Packed.{packed, packsOutcome, packsAmount, packsByte, packsAsked, packsBytes, packsSteps, packsWatch, packsSampled, packsFound, Answers}
 
 -- What each `yk_..` promises. A body and an input are only read, so they hold what they held.
 abbrev pub YkWrite : ℕ → List ℕ → ℕ → ℕ → ℕ → List ℕ → Type 0
@@ -53,7 +53,7 @@ YkReadRecord bytes r = Answers packsFound (λ f. records.ReadsRecord bytes f) r
 
 abbrev pub YkWriteRecord : ℕ → ℕ → List ℕ → List ℕ → ℕ → List ℕ → Type 0
 YkWriteRecord chip table body old r new =
-    Answers packsCount (λ a. records.WritesRecordBy (writeBodyChecks chip table body old) (planOf chip table body) old a new) r
+    Answers packsAmount (λ a. records.WritesRecordBy (writeBodyChecks chip table body old) (planOf chip table body) old a new) r
 
 abbrev pub YkAskedOfPlan : ℕ → ℕ → List ℕ → ℕ → ℕ → Type 0
 YkAskedOfPlan chip table body t r =
@@ -64,14 +64,14 @@ YkAskedOfImage chip table image t r = Answers packsAsked (λ a. plans.AsksImage 
 
 abbrev pub YkScript : ℕ → ℕ → List ℕ → List ℕ → ℕ → List ℕ → Type 0
 YkScript chip table body old r new =
-    Answers packsCount (λ a. scripts.ScriptsBy (scriptBodyChecks chip table body old) (planOf chip table body) old a new) r
+    Answers packsAmount (λ a. scripts.ScriptsBy (scriptBodyChecks chip table body old) (planOf chip table body) old a new) r
 
 abbrev pub YkPlay : ℕ → ℕ → List ℕ → List ℕ → ℕ → ℕ → List ℕ → Type 0
 YkPlay chip table body old count r new =
-    Answers packsCount (λ a. plays.PlaysBy (playBodyChecks chip table body old) (planOf chip table body) old count a new) r
+    Answers packsAmount (λ a. plays.PlaysBy (playBodyChecks chip table body old) (planOf chip table body) old count a new) r
 
 abbrev pub YkTranslate : List ℕ → List ℕ → ℕ → List ℕ → Type 0
-YkTranslate input old r new = Answers packsCount (λ a. translation.Translates input old a new) r
+YkTranslate input old r new = Answers packsAmount (λ a. translation.Translates input old a new) r
 
 -- samples in turn; "A refused sample changes neither fact", and the call itself is never refused
 abbrev pub YkRun : ℕ → ℕ → List ℤ → ℤ → ℤ → ℕ → Type 0

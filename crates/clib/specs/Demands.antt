@@ -9,10 +9,10 @@ use lib.ListN.{length, getD, take, drop}
 use Rattle.refusal.specs.declared.Refusal.{Refusal}
 use Rattle.refusal.specs.declared.Outcome.{Outcome}
 use Rattle.refusal.specs.declared.Outcome.the-variants.{Accepted}
-use Rattle.refusal.specs.declared.Count.{Count}
-use Rattle.refusal.specs.declared.Count.the-variants.{Of}
+use Rattle.refusal.specs.declared.Amount.{Amount}
+use Rattle.refusal.specs.declared.Amount.the-variants.{Of}
 use Rattle.refusal.specs.Contracts.{Numbers}
-use Rattle.refusal.specs.Answers.{tells, tellsCount}
+use Rattle.refusal.specs.Answers.{tells, tellsAmount}
 use Rattle.refusal.specs.Checks.{Check, first, roomChecks}
 use Rattle.cards.specs.declared.types.Chip.{Chip}
 use Rattle.cards.specs.declared.types.Named.{Named}
@@ -75,7 +75,7 @@ abbrev pub verdict : Outcome → ℕ × Unit {0}
 verdict r = (tells r, tt)
 
 abbrev pub tellsFound : Found → ℕ × (ℕ × Plan)
-tellsFound r = (tellsCount (r .answer) .0, (tellsCount (r .answer) .1, r .plan))
+tellsFound r = (tellsAmount (r .answer) .0, (tellsAmount (r .answer) .1, r .plan))
 
 -- the number that crosses, taken apart: the refusal is its low byte, the value the rest
 abbrev pub unpacked : ℕ → ℕ × ℕ
@@ -134,16 +134,16 @@ pub record Demand1 : Type 0 where
   pub plan-from : (chip table : ℕ) (body : List ℕ) (r : Found) → records.TakesBody chip table body r
       → Answered (records.bodyChecks chip table body) (0, noPlan) (tellsFound r)
   pub read-record : (bytes : List ℕ) (r : Found) → records.ReadsRecord bytes r → Answered (records.recordChecks bytes) (0, noPlan) (tellsFound r)
-  pub write-record : (plan : Plan) (old : List ℕ) (r : Count) (new : List ℕ) → records.WritesRecord plan old r new
-      → Answered (records.writeChecks plan old) 0 (tellsCount r) × Kept (tellsCount r .0) old new
-  pub script : (plan : Plan) (old : List ℕ) (r : Count) (new : List ℕ) → scripts.Scripts plan old r new
-      → Answered (scripts.scriptChecks plan old) 0 (tellsCount r) × Kept (tellsCount r .0) old new
+  pub write-record : (plan : Plan) (old : List ℕ) (r : Amount) (new : List ℕ) → records.WritesRecord plan old r new
+      → Answered (records.writeChecks plan old) 0 (tellsAmount r) × Kept (tellsAmount r .0) old new
+  pub script : (plan : Plan) (old : List ℕ) (r : Amount) (new : List ℕ) → scripts.Scripts plan old r new
+      → Answered (scripts.scriptChecks plan old) 0 (tellsAmount r) × Kept (tellsAmount r .0) old new
   pub make : (chip : Chip) (plan : Plan) (count : ℕ) (old : List ℕ)
       → Given (λ (made : ℕ × List ℕ). scripts.Makes chip plan count old (made .0) (made .1))
-  pub play : (plan : Plan) (old : List ℕ) (count : ℕ) (r : Count) (new : List ℕ) → plays.Plays plan old count r new
-      → Answered (plays.playChecks plan old) 0 (tellsCount r) × Kept (tellsCount r .0) old new
-  pub translate : (input old : List ℕ) (r : Count) (new : List ℕ) → translation.Translates input old r new
-      → Answered (roomChecks (length (textOf input)) old) 0 (tellsCount r) × Kept (tellsCount r .0) old new
+  pub play : (plan : Plan) (old : List ℕ) (count : ℕ) (r : Amount) (new : List ℕ) → plays.Plays plan old count r new
+      → Answered (plays.playChecks plan old) 0 (tellsAmount r) × Kept (tellsAmount r .0) old new
+  pub translate : (input old : List ℕ) (r : Amount) (new : List ℕ) → translation.Translates input old r new
+      → Answered (roomChecks (length (textOf input)) old) 0 (tellsAmount r) × Kept (tellsAmount r .0) old new
   -- the C boundary
   pub yk-write : (chip : ℕ) (old : List ℕ) (address byte r : ℕ) (new : List ℕ) → YkWrite chip old address byte r new
       → Answered (images.imageChecks chip old) 0 (unpacked r) × Kept (unpacked r .0) old new
@@ -180,7 +180,7 @@ pub record Demand2 : Type 0 where
   pub bytes-and-back : (width high low : ℕ) (n : ℤ) (r : Bytes) → high < 256 → low < 256 → readings.CountsSteps width high low (Counted n) → readings.GivesBytes width n r
       → r ≡ Pair (cleared width high low .0) (cleared width high low .1)
   -- "plan records go to plans and back": the plan of a record has that record, where there is room for it ..
-  pub record-and-back : (bytes : List ℕ) (n : ℕ) (found : Found) (old : List ℕ) (r : Count) (new : List ℕ) → ((k : ℕ) → getD bytes k 0 < 256)
+  pub record-and-back : (bytes : List ℕ) (n : ℕ) (found : Found) (old : List ℕ) (r : Amount) (new : List ℕ) → ((k : ℕ) → getD bytes k 0 < 256)
       → records.ReadsRecord bytes found → found .answer ≡ Of n → records.WritesRecord (found .plan) old r new → n ≤ length old
       → (r ≡ Of n) × (new ≡ take n bytes ++ drop n old)
   -- .. and the record of a plan has that plan, without the other chip's values

@@ -5,8 +5,8 @@ use mathlib.Core.Path.{_≡_}
 use mathlib.Core.Bool.{cond}
 use lib.Dec.{eqb}
 use Rattle.refusal.specs.declared.Outcome.{Outcome}
-use Rattle.refusal.specs.declared.Count.{Count}
-use Rattle.refusal.specs.Answers.{tells, tellsCount}
+use Rattle.refusal.specs.declared.Amount.{Amount}
+use Rattle.refusal.specs.Answers.{tells, tellsAmount}
 use Rattle.images.specs.declared.ByteRead.{ByteRead}
 use Rattle.images.specs.Contracts as images
 use Rattle.readings.specs.declared.Steps.{Steps}
@@ -32,8 +32,8 @@ packs t = packed (t .0) (t .1)
 abbrev pub packsOutcome : Outcome → ℕ
 packsOutcome a = packed (tells a) 0
 
-abbrev pub packsCount : Count → ℕ
-packsCount a = packs (tellsCount a)
+abbrev pub packsAmount : Amount → ℕ
+packsAmount a = packs (tellsAmount a)
 
 abbrev pub packsByte : ByteRead → ℕ
 packsByte a = packs (images.tellsByte a)
@@ -56,9 +56,9 @@ abbrev pub packsSampled : Sampled → ℕ
 packsSampled a = packed (watch.tellsSampled a .0) (factsOf (watch.tellsSampled a .1))
 
 -- the bytes used, with the chip and the table above them where the record is read
-abbrev pub packsUsed : Count → ℕ → ℕ → ℕ
+abbrev pub packsUsed : Amount → ℕ → ℕ → ℕ
 packsUsed a chip table =
-    packed (tellsCount a .0) (cond (eqb (tellsCount a .0) 0) (tellsCount a .1 + 256 * chip + 65536 * table) 0)
+    packed (tellsAmount a .0) (cond (eqb (tellsAmount a .0) 0) (tellsAmount a .1 + 256 * chip + 65536 * table) 0)
 
 abbrev pub packsFound : Found → ℕ
 packsFound f = packsUsed (f .answer) (f .plan .chip) (f .plan .table)

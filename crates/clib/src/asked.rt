@@ -1,6 +1,6 @@
 // The speed that a plan, or the curve in an image, asks at a temperature.
 use crate::packing;
-use refusal::Count;
+use refusal::Amount;
 ghost use Rattle.clib.specs.Contracts.{YkAskedOfPlan, YkAskedOfImage};
 
 #[no_mangle]
@@ -10,8 +10,8 @@ pub extern "C" fn yk_asked_of_plan(chip: u8, table: u8, body: &[u8], t: u8) -> u
     let found = records::plan_from(chip, table, body);
     let answer = found.answer;
     match answer {
-        Count::Refused(refusal) => packing::refused(refusal),
-        Count::Of(_) => {
+        Amount::Refused(refusal) => packing::refused(refusal),
+        Amount::Of(_) => {
             let plan = found.plan;
             let asked = plans::asked_of_plan(plan, t);
             packing::of_asked(asked)

@@ -3,14 +3,14 @@ use images::ByteRead;
 use plans::Asked;
 use readings::Bytes;
 use readings::Steps;
-use refusal::Count;
+use refusal::Amount;
 use refusal::Outcome;
 use refusal::Refusal;
 ghost use mathlib.Core.Path.{_≡_};
 ghost use Prim.Native.Nat.{_<_, _^_};
 ghost use Rattle.refusal.specs.Refusals.{numberOf};
-ghost use Rattle.refusal.specs.Answers.{tellsCount};
-ghost use Rattle.clib.specs.Packed.{packed, packsOutcome, packsCount, packsByte, packsAsked, packsBytes, packsSteps, packsUsed};
+ghost use Rattle.refusal.specs.Answers.{tellsAmount};
+ghost use Rattle.clib.specs.Packed.{packed, packsOutcome, packsAmount, packsByte, packsAsked, packsBytes, packsSteps, packsUsed};
 
 // A value of at most 56 bits has room above the refusal number.
 pub(crate) fn packed(refusal: u8, value: u64) -> u64
@@ -74,23 +74,23 @@ pub(crate) fn of_steps(steps: Steps) -> u64
     }
 }
 
-pub(crate) fn of_count(count: Count) -> u64
-    requires { ⌜ tellsCount count .1 < 2 ^ 56 ⌝ }
-    ensures { λ r. ⌜ r ≡ packsCount count ⌝ }
+pub(crate) fn of_amount(count: Amount) -> u64
+    requires { ⌜ tellsAmount count .1 < 2 ^ 56 ⌝ }
+    ensures { λ r. ⌜ r ≡ packsAmount count ⌝ }
 {
     match count {
-        Count::Of(n) => packed(0, n as u64),
-        Count::Refused(refusal) => refused(refusal),
+        Amount::Of(n) => packed(0, n as u64),
+        Amount::Refused(refusal) => refused(refusal),
     }
 }
 
 // The bytes used, and the chip and the table above them.
-pub(crate) fn of_used(used: Count, chip: u8, table: u8) -> u64
-    requires { ⌜ tellsCount used .1 < 2 ^ 16 ⌝ }
+pub(crate) fn of_used(used: Amount, chip: u8, table: u8) -> u64
+    requires { ⌜ tellsAmount used .1 < 2 ^ 16 ⌝ }
     ensures { λ r. ⌜ r ≡ packsUsed used chip table ⌝ }
 {
     match used {
-        Count::Of(n) => packed(0, n as u64 + 256 * chip as u64 + 65536 * table as u64),
-        Count::Refused(refusal) => refused(refusal),
+        Amount::Of(n) => packed(0, n as u64 + 256 * chip as u64 + 65536 * table as u64),
+        Amount::Refused(refusal) => refused(refusal),
     }
 }

@@ -1,6 +1,6 @@
 // Plan records: read from bytes, and written to a lent buffer.
 use crate::packing;
-use refusal::Count;
+use refusal::Amount;
 ghost use Rattle.clib.specs.Contracts.{YkReadRecord, YkWriteRecord};
 
 // The caller has the body, from the fifth of the bytes used on.
@@ -21,11 +21,11 @@ pub extern "C" fn yk_write_record(chip: u8, table: u8, body: &[u8], out: &mut [u
     let found = records::plan_from(chip, table, body);
     let answer = found.answer;
     match answer {
-        Count::Refused(refusal) => packing::refused(refusal),
-        Count::Of(_) => {
+        Amount::Refused(refusal) => packing::refused(refusal),
+        Amount::Of(_) => {
             let plan = found.plan;
             let used = records::write(plan, out);
-            packing::of_count(used)
+            packing::of_amount(used)
         }
     }
 }

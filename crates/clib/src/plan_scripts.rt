@@ -1,6 +1,6 @@
 // A plan's byte writes, and playing them on an image.
 use crate::packing;
-use refusal::Count;
+use refusal::Amount;
 ghost use mathlib.Core.Path.{_≡_};
 ghost use Rattle.refusal.specs.Checks.{first};
 ghost use Rattle.records.specs.Records.{planOf};
@@ -15,11 +15,11 @@ pub extern "C" fn yk_script(chip: u8, table: u8, body: &[u8], out: &mut [u8]) ->
     let found = records::plan_from(chip, table, body);
     let answer = found.answer;
     match answer {
-        Count::Refused(refusal) => packing::refused(refusal),
-        Count::Of(_) => {
+        Amount::Refused(refusal) => packing::refused(refusal),
+        Amount::Of(_) => {
             let plan = found.plan;
             let made = scripts::script(plan, out);
-            packing::of_count(made)
+            packing::of_amount(made)
         }
     }
 }
@@ -32,11 +32,11 @@ pub extern "C" fn yk_play(chip: u8, table: u8, body: &[u8], image: &mut [u8], co
     let found = records::plan_from(chip, table, body);
     let answer = found.answer;
     match answer {
-        Count::Refused(refusal) => packing::refused(refusal),
-        Count::Of(_) => {
+        Amount::Refused(refusal) => packing::refused(refusal),
+        Amount::Of(_) => {
             let plan = found.plan;
             let made = plays::play(plan, image, count);
-            packing::of_count(made)
+            packing::of_amount(made)
         }
     }
 }

@@ -7,5 +7,5 @@ pub extern "C" fn yk_translate(input: &[u8], out: &mut [u8]) -> u64
     ensures { λ r. ⌜ YkTranslate (now (input .entry)) (now (out .entry)) r (now (out .exit)) ⌝ }
 {
     let text = translation::translate(input, out);
-    packing::of_count(text)
+    packing::of_amount(text)
 }

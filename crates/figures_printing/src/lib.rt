@@ -1,6 +1,6 @@
 // Pieces of a line, to standard output, for the programs that print figures. Nothing here answers anything or alters a byte that it is lent.
 use libc::STDOUT_FILENO;
-use refusal::Count;
+use refusal::Amount;
 use refusal::Refusal;
 ghost use mathlib.Core.Path.{_≡_};
 ghost use Rattle.figures_printing.specs.Pieces.{upperDigit, allFilled};
@@ -83,10 +83,10 @@ pub fn refused(r: Refusal) {
     labelled(b" refused ", refusal::number(r) as u64);
 }
 
-pub fn counted(label: &[u8], answer: Count) {
+pub fn counted(label: &[u8], answer: Amount) {
     match answer {
-        Count::Refused(r) => refused(r),
-        Count::Of(n) => labelled(label, n as u64),
+        Amount::Refused(r) => refused(r),
+        Amount::Of(n) => labelled(label, n as u64),
     }
 }
 

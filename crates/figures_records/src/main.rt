@@ -2,9 +2,9 @@
 use curves::Plan;
 use curves::SlopeValues;
 use curves::StepValues;
-use refusal::Count;
+use refusal::Amount;
 
-fn used(answer: Count) {
+fn used(answer: Amount) {
     figures_printing::counted(b" used ", answer);
 }
 

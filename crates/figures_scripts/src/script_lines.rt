@@ -1,9 +1,9 @@
 // Scripts written to a buffer that was filled with 5Ah, `script PLAN room N writes N out BYTES`, and plays that are refused:
 // `play PLAN length L refused R kept`.
 use curves::Plan;
-use refusal::Count;
+use refusal::Amount;
 
-pub fn made(answer: Count) {
+pub fn made(answer: Amount) {
     figures_printing::counted(b" writes ", answer);
 }
 

@@ -7,7 +7,7 @@ use lib.ListN.{length, take}
 use Rattle.refusal.specs.declared.Refusal.{Refusal}
 use Rattle.refusal.specs.Refusals.{numberOf}
 use Rattle.refusal.specs.Checks.{first}
-use Rattle.refusal.specs.declared.Count.the-variants as counted
+use Rattle.refusal.specs.declared.Amount.the-variants as amount
 use Rattle.refusal.specs.declared.Outcome.the-variants as outcome
 use Rattle.refusal.proofs.Passed.{all-passed, first-passed, when-passed, when-refused, told-passed, told-refused}
 use Rattle.cards.specs.declared.types.Chip.{Chip}
@@ -17,7 +17,7 @@ use Rattle.identities.specs.Contracts.{identityChecks, Confirms}
 use Rattle.curves.specs.declared.Plan.{Plan}
 use Rattle.plans.specs.Contracts.{planChecks}
 use Rattle.scripts.specs.Scripts.{scriptOf, scriptFor}
-use Rattle.scripts.specs.Plays.{played}
+use Rattle.scripts.specs.Played.{played}
 use Rattle.scripts.specs.Contracts.{Makes}
 use Rattle.scripts.proofs.Answers.{still-refused}
 use Rattle.plays.specs.Contracts.{startChecks, playChecks, Plays}
@@ -26,7 +26,7 @@ module _ (plan : Plan) (image : List ℕ) (count : ℕ) where
   abbrev writes : ℕ
   writes = min count (length (scriptFor plan))
 
-  pub play-refused : (r : Refusal) → numberOf r ≡ first (planChecks plan) → Plays plan image count (counted.Refused r) image
+  pub play-refused : (r : Refusal) → numberOf r ≡ first (planChecks plan) → Plays plan image count (amount.Refused r) image
   play-refused r e =
       let all = still-refused r (planChecks plan) (startChecks plan image) e in
       record { answer = told-refused r (playChecks plan image) writes all; bytes = when-refused r _ image all }
@@ -38,13 +38,13 @@ module _ (plan : Plan) (image : List ℕ) (count : ℕ) where
       ∙ sym (rw (all-passed (planChecks plan) refl e .0))
 
   pub play-unconfirmed : (r : Refusal) → first (planChecks plan) ≡ 0 → Confirms (plan .chip) image (outcome.Refused r)
-      → Plays plan image count (counted.Refused r) image
+      → Plays plan image count (amount.Refused r) image
   play-unconfirmed r e c =
       let all : numberOf r ≡ first (playChecks plan image) = c .answer ∙ sym (same-checks e) in
       record { answer = told-refused r (playChecks plan image) writes all; bytes = when-refused r _ image all }
 
   pub play-made : {n : ℕ} {new : List ℕ} (chip : Chip) → chipOf (plan .chip) ≡ Known chip → first (planChecks plan) ≡ 0
-      → Confirms (plan .chip) image outcome.Accepted → Makes chip plan count image n new → Plays plan image count (counted.Of n) new
+      → Confirms (plan .chip) image outcome.Accepted → Makes chip plan count image n new → Plays plan image count (amount.Of n) new
   play-made {n} {new} chip named e c m =
       let none : first (playChecks plan image) ≡ 0 = same-checks e ∙ sym (c .answer) in
       let all : n ≡ writes = m .answer ∙ rw named in

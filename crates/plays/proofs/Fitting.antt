@@ -23,7 +23,7 @@ use Rattle.plans.proofs.Laws.{Accepted}
 use Rattle.scripts.specs.Scripts.{writes, placements}
 use Rattle.scripts.proofs.Safe.{Fits}
 use Rattle.plays.proofs.Rules.{each-long, ruleOf}
-use Rattle.plays.proofs.Played.{Fit, AllWhole, whole-append, whole-writes, all-of, settings-inside, speeds-inside}
+use Rattle.plays.proofs.Played.{Fit, WholeWrites, whole-append, whole-writes, all-of, settings-inside, speeds-inside}
 
 -- a value of a register whose mask is as the shape asks is none faster than full
 one-slower : (shape : Shape) (mask v : ℕ) → So (reaches shape mask) → v ≤ mask → ruleOf shape .Fast (ruleOf shape .full) v
@@ -98,7 +98,7 @@ module _ (chip : Chip) (plan : Plan) (accepted : Accepted chip plan) where
       }
 
   -- each write of its script is taken whole
-  pub script-whole : AllWhole chip (placements chip plan)
+  pub script-whole : WholeWrites chip (placements chip plan)
   unfolding placements
   script-whole =
       let settings = tableOf chip (plan .table) .settings in

@@ -10,8 +10,8 @@ use lib.Dec.{eqb}
 use lib.ListN.{length, getD, take}
 use Rattle.refusal.specs.Checks.{first}
 use Rattle.refusal.proofs.Passed.{all-passed, first-front}
-use Rattle.refusal.specs.declared.Count.{Count}
-use Rattle.refusal.specs.declared.Count.the-variants as counted
+use Rattle.refusal.specs.declared.Amount.{Amount}
+use Rattle.refusal.specs.declared.Amount.the-variants as amount
 use Rattle.cards.specs.declared.types.Chip.{Chip}
 use Rattle.cards.specs.declared.types.Named.{Named}
 use Rattle.cards.specs.declared.types.Named.the-variants.{Known}
@@ -25,7 +25,7 @@ use Rattle.plans.specs.Contracts.{planChecks, AsksImage, AsksPlan}
 use Rattle.plans.proofs.Laws.{Accepted, passed-plan}
 use Rattle.plans.proofs.Unique.{tellsAsked-injective}
 use Rattle.scripts.specs.Scripts.{scriptOf}
-use Rattle.scripts.specs.Plays.{played}
+use Rattle.scripts.specs.Played.{played}
 use Rattle.scripts.proofs.Bus.{played-length}
 use Rattle.plays.specs.Contracts.{startChecks, playChecks, Plays}
 use Rattle.plays.specs.NeverSlower.{Demand3, Safely}
@@ -37,7 +37,7 @@ record Begun (chip : Chip) (plan : Plan) (image : List ℕ) : Type 0 where
   accepted : Accepted chip plan
   long : length image ≡ sizeOf chip
 
-begun : {plan : Plan} {old new : List ℕ} {count n : ℕ} (chip : Chip) → chipOf (plan .chip) ≡ Known chip → Plays plan old count (counted.Of n) new
+begun : {plan : Plan} {old new : List ℕ} {count n : ℕ} (chip : Chip) → chipOf (plan .chip) ≡ Known chip → Plays plan old count (amount.Of n) new
     → Begun chip plan old
 begun {plan} {old} chip e p =
     let none : first (playChecks plan old) ≡ 0 = sym (ap (λ (t : ℕ × ℕ). t .0) (p .answer)) in
@@ -60,7 +60,7 @@ plan-speed {plan} {t} {r} chip e has p =
     tellsAsked-injective r (Speed (asks (shapeOf chip (plan .table)) (plannedFor chip plan) t)) (p .answer ∙ rw (e, has))
 
 -- the image that a play leaves
-left-by-play : {plan : Plan} {old new : List ℕ} {count n : ℕ} (chip : Chip) → chipOf (plan .chip) ≡ Known chip → Plays plan old count (counted.Of n) new
+left-by-play : {plan : Plan} {old new : List ℕ} {count n : ℕ} (chip : Chip) → chipOf (plan .chip) ≡ Known chip → Plays plan old count (amount.Of n) new
     → new ≡ played chip (take count (scriptOf chip plan)) old
 left-by-play {plan} {old} {new} {count} chip e p =
     let none : 0 ≡ first (playChecks plan old) = ap (λ (t : ℕ × ℕ). t .0) (p .answer) in
@@ -71,7 +71,7 @@ left-by-play {plan} {old} {new} {count} chip e p =
 -- "Take any accepted plan and any starting image whose identity its chip confirms. Play the plan's script and stop after any number of whole
 -- writes, from none to all": a play that is not refused meets demand 3.
 pub demand-3 : {plan : Plan} {old new : List ℕ} {count n : ℕ} (chip : Chip) → chipOf (plan .chip) ≡ Known chip
-    → Plays plan old count (counted.Of n) new
+    → Plays plan old count (amount.Of n) new
     → Demand3 chip plan old count new
 demand-3 {plan} {old} {new} {count} chip e p =
     let ok = begun chip e p in
@@ -93,9 +93,9 @@ demand-3 {plan} {old} {new} {count} chip e p =
     }
 
 -- and no play of an accepted plan on a confirmed image is refused, so each of them does
-pub plays-safely : {plan : Plan} {old new : List ℕ} {count : ℕ} {r : Count} → Plays plan old count r new → Safely plan old count new
+pub plays-safely : {plan : Plan} {old new : List ℕ} {count : ℕ} {r : Amount} → Plays plan old count r new → Safely plan old count new
 plays-safely {plan} {old} {new} {count} p =
     record {
       stop = λ chip e passed confirmed.
-          demand-3 chip e (subst (λ (s : Count). Plays plan old count s new) (play-accepted passed confirmed p) p);
+          demand-3 chip e (subst (λ (s : Amount). Plays plan old count s new) (play-accepted passed confirmed p) p);
     }

@@ -20,7 +20,7 @@ use Rattle.images.specs.Bytes.{placed}
 use Rattle.images.proofs.Laws.{storedAt-length, storedAt-other, storedAt-takes}
 use Rattle.curves.specs.Orders.{All, Each}
 use Rattle.scripts.specs.Scripts.{Pair, writes}
-use Rattle.scripts.specs.Plays.{laid}
+use Rattle.scripts.specs.Played.{laid}
 use Rattle.scripts.specs.Rules.{Outside}
 use Rattle.scripts.proofs.Memory.{Memory, put, puts, put-there, put-elsewhere, Distinct, Disjoint}
 use Rattle.scripts.proofs.Safe.{Apart}
@@ -34,19 +34,19 @@ abbrev pub Inside : Chip → ℕ → Type 0
 Inside chip position = position < sizeOf chip
 
 -- a write that its register takes whole
-abbrev pub Whole : Chip → Pair → Type 0
-Whole chip w = Fit chip (w .0) (w .1) × Inside chip (w .0)
+abbrev pub WholeWrite : Chip → Pair → Type 0
+WholeWrite chip w = Fit chip (w .0) (w .1) × Inside chip (w .0)
 
-abbrev pub AllWhole : Chip → List Pair → Type 0
-AllWhole chip [] = Unit {0}
-AllWhole chip (w ∷ ws) = Whole chip w × AllWhole chip ws
+abbrev pub WholeWrites : Chip → List Pair → Type 0
+WholeWrites chip [] = Unit {0}
+WholeWrites chip (w ∷ ws) = WholeWrite chip w × WholeWrites chip ws
 
 pub laid-length : (chip : Chip) (ws : List Pair) (image : List ℕ) → length (laid chip ws image) ≡ length image
 laid-length chip [] image = refl
 laid-length chip (w ∷ ws) image =
     laid-length chip ws (placed chip (w .0) (w .1) image) ∙ storedAt-length (masksIn (rowOf chip (w .0))) (w .0) (w .1) image
 
-placed-put : (chip : Chip) (w : Pair) (image : List ℕ) → Whole chip w → length image ≡ sizeOf chip
+placed-put : (chip : Chip) (w : Pair) (image : List ℕ) → WholeWrite chip w → length image ≡ sizeOf chip
     → worth chip (placed chip (w .0) (w .1) image) ≡ put (worth chip image) w
 placed-put chip w image h e = λ i q. at-each q (eqb q (w .0)) refl i
   where
@@ -61,24 +61,24 @@ placed-put chip w image h e = λ i q. at-each q (eqb q (w .0)) refl i
         ap (λ (b : ℕ). bitAnd b (rowOf chip q .writable)) (storedAt-other (masksIn (rowOf chip (w .0))) (w .0) (w .1) image q other)
         ∙ sym (put-elsewhere (worth chip image) (w .0) (w .1) q other)
 
-pub laid-puts : (chip : Chip) (ws : List Pair) (image : List ℕ) → AllWhole chip ws → length image ≡ sizeOf chip
+pub laid-puts : (chip : Chip) (ws : List Pair) (image : List ℕ) → WholeWrites chip ws → length image ≡ sizeOf chip
     → worth chip (laid chip ws image) ≡ puts (worth chip image) ws
 laid-puts chip [] image h e = refl
 laid-puts chip (w ∷ ws) image h e =
     laid-puts chip ws (placed chip (w .0) (w .1) image) (h .1) (storedAt-length (masksIn (rowOf chip (w .0))) (w .0) (w .1) image ∙ e)
     ∙ ap (λ (m : Memory). puts m ws) (placed-put chip w image (h .0) e)
 
-pub whole-take : (chip : Chip) (k : ℕ) (ws : List Pair) → AllWhole chip ws → AllWhole chip (take k ws)
+pub whole-take : (chip : Chip) (k : ℕ) (ws : List Pair) → WholeWrites chip ws → WholeWrites chip (take k ws)
 whole-take chip zero ws h = tt
 whole-take chip (suc k) [] h = tt
 whole-take chip (suc k) (w ∷ ws) h = (h .0, whole-take chip k ws (h .1))
 
-pub whole-append : (chip : Chip) (xs ys : List Pair) → AllWhole chip xs → AllWhole chip ys → AllWhole chip (xs ++ ys)
+pub whole-append : (chip : Chip) (xs ys : List Pair) → WholeWrites chip xs → WholeWrites chip ys → WholeWrites chip (xs ++ ys)
 whole-append chip [] ys h k = k
 whole-append chip (x ∷ xs) ys h k = (h .0, whole-append chip xs ys (h .1) k)
 
 pub whole-writes : (chip : Chip) (registers bytes : List ℕ) → All (Inside chip) registers → Each (Fit chip) registers bytes
-    → AllWhole chip (writes registers bytes)
+    → WholeWrites chip (writes registers bytes)
 whole-writes chip [] bytes f b = tt
 whole-writes chip (p ∷ ps) [] f b = tt
 whole-writes chip (p ∷ ps) (x ∷ xs) f b = ((b .0, f .0), whole-writes chip ps xs (f .1) (b .1))
@@ -88,13 +88,13 @@ pub all-of : (P : ℕ → Type 0) (xs : List ℕ) → ((k : ℕ) → k < length 
 all-of P [] h = tt
 all-of P (x ∷ xs) h = (h 0 (omega arith), all-of P xs (λ k l. h (suc k) (suc-le-suc l)))
 
-pub all-left : (P : ℕ → Type 0) (xs ys : List ℕ) → All P (xs ++ ys) → All P xs
-all-left P [] ys a = tt
-all-left P (x ∷ xs) ys a = (a .0, all-left P xs ys (a .1))
+pub all-front : (P : ℕ → Type 0) (xs ys : List ℕ) → All P (xs ++ ys) → All P xs
+all-front P [] ys a = tt
+all-front P (x ∷ xs) ys a = (a .0, all-front P xs ys (a .1))
 
-pub all-right : (P : ℕ → Type 0) (xs ys : List ℕ) → All P (xs ++ ys) → All P ys
-all-right P [] ys a = a
-all-right P (x ∷ xs) ys a = all-right P xs ys (a .1)
+pub all-behind : (P : ℕ → Type 0) (xs ys : List ℕ) → All P (xs ++ ys) → All P ys
+all-behind P [] ys a = a
+all-behind P (x ∷ xs) ys a = all-behind P xs ys (a .1)
 
 -- what holds of each pair of places of a list, of its entries
 distinct-of : (xs : List ℕ) → ((j k : ℕ) → j < length xs → k < length xs → getD xs j 0 ≡ getD xs k 0 → j ≡ k) → Distinct xs
@@ -106,7 +106,7 @@ distinct-of (x ∷ xs) h = (
 
 distinct-left : (xs ys : List ℕ) → Distinct (xs ++ ys) → Distinct xs
 distinct-left [] ys d = tt
-distinct-left (x ∷ xs) ys d = (all-left (λ q. q ≡ x → ⊥) xs ys (d .0), distinct-left xs ys (d .1))
+distinct-left (x ∷ xs) ys d = (all-front (λ q. q ≡ x → ⊥) xs ys (d .0), distinct-left xs ys (d .1))
 
 distinct-right : (xs ys : List ℕ) → Distinct (xs ++ ys) → Distinct ys
 distinct-right [] ys d = d
@@ -114,7 +114,7 @@ distinct-right (x ∷ xs) ys d = distinct-right xs ys (d .1)
 
 between : (xs ys : List ℕ) → Distinct (xs ++ ys) → Disjoint xs ys
 between [] ys d = tt
-between (x ∷ xs) ys d = (all-right (λ q. q ≡ x → ⊥) xs ys (d .0), between xs ys (d .1))
+between (x ∷ xs) ys d = (all-behind (λ q. q ≡ x → ⊥) xs ys (d .0), between xs ys (d .1))
 
 -- disjoint either way round
 disjoint-nil : (ys : List ℕ) → Disjoint ys []
@@ -137,10 +137,10 @@ module _ (chip : Chip) (number : ℕ) where
   all-inside = all-of (Inside chip) registers (λ k l. table-within chip number k l)
 
   pub settings-inside : All (Inside chip) (tableOf chip number .settings)
-  settings-inside = all-left (Inside chip) (tableOf chip number .settings) (tableOf chip number .speeds) all-inside
+  settings-inside = all-front (Inside chip) (tableOf chip number .settings) (tableOf chip number .speeds) all-inside
 
   pub speeds-inside : All (Inside chip) (tableOf chip number .speeds)
-  speeds-inside = all-right (Inside chip) (tableOf chip number .settings) (tableOf chip number .speeds) all-inside
+  speeds-inside = all-behind (Inside chip) (tableOf chip number .settings) (tableOf chip number .speeds) all-inside
 
   pub table-apart : Apart (tableOf chip number)
   table-apart =

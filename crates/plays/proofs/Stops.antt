@@ -19,13 +19,13 @@ use Rattle.curves.specs.Planned.{Curve, asks, fullOf, AsFast, slower}
 use Rattle.plans.specs.Plans.{held, plannedFor}
 use Rattle.plans.proofs.Laws.{Accepted}
 use Rattle.scripts.specs.Scripts.{Pair, writes, script, placements, scriptOf}
-use Rattle.scripts.specs.Plays.{laid, played, stops, touched}
+use Rattle.scripts.specs.Played.{laid, played, stops, touched}
 use Rattle.scripts.specs.Rules.{Outside, Rule}
 use Rattle.scripts.proofs.Bus.{bus-plain, bus-cut, bus-stops, played-length}
 use Rattle.scripts.proofs.Memory.{Memory, puts, AllElsewhere, elsewhere-writes, elsewhere-append}
 use Rattle.scripts.proofs.Safe.{curveIn, asked, plays, never-slower, ends-planned}
 use Rattle.plays.proofs.Rules.{ruleOf}
-use Rattle.plays.proofs.Played.{whole-take, laid-length, laid-puts, all-left, all-right, table-apart}
+use Rattle.plays.proofs.Played.{whole-take, laid-length, laid-puts, all-front, all-behind, table-apart}
 use Rattle.plays.proofs.Fitting.{plan-fits, script-whole}
 
 -- what a rule says of three curves, in the words of demand 3
@@ -128,8 +128,8 @@ module _ (chip : Chip) (plan : Plan) (accepted : Accepted chip plan) (old : List
   script-elsewhere q o =
       let settings = table .settings in
       let speeds = table .speeds in
-      let a = all-left (λ p. p ≡ q → ⊥) settings speeds o in
-      let b = all-right (λ p. p ≡ q → ⊥) settings speeds o in
+      let a = all-front (λ p. p ≡ q → ⊥) settings speeds o in
+      let b = all-behind (λ p. p ≡ q → ⊥) settings speeds o in
       elsewhere-append q (writes speeds (fulls (fullOf shape) speeds)) (writes settings (curve .settings) ++ writes speeds (curve .speeds))
       (elsewhere-writes q speeds (fulls (fullOf shape) speeds) b)
       (elsewhere-append q (writes settings (curve .settings)) (writes speeds (curve .speeds))

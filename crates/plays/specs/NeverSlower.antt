@@ -17,7 +17,7 @@ use Rattle.plans.specs.declared.Asked.the-variants.{Speed, Refused}
 use Rattle.curves.specs.Planned.{AsFast, slower}
 use Rattle.plans.specs.Contracts.{planChecks, AsksImage, AsksPlan}
 use Rattle.scripts.specs.Scripts.{scriptFor}
-use Rattle.scripts.specs.Plays.{touched}
+use Rattle.scripts.specs.Played.{touched}
 use Rattle.scripts.specs.Rules.{Outside}
 
 -- "never slower than the slower of the old curve and the plan", of three speeds asked; a refusal is none

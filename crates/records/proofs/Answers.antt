@@ -24,9 +24,9 @@ use Rattle.refusal.proofs.Passed.{
   same-told,
   same-left,
 }
-use Rattle.refusal.specs.declared.Count.{Count}
-use Rattle.refusal.specs.declared.Count.the-variants as counted
-use Rattle.refusal.specs.Answers.{tellsCount}
+use Rattle.refusal.specs.declared.Amount.{Amount}
+use Rattle.refusal.specs.declared.Amount.the-variants as amount
+use Rattle.refusal.specs.Answers.{tellsAmount}
 use Rattle.cards.specs.declared.types.Chip.{Chip}
 use Rattle.cards.specs.declared.types.Named.the-variants.{Known}
 use Rattle.cards.specs.Cards.{chipOf, whenKnown, hasTable, shapeOf}
@@ -36,26 +36,26 @@ use Rattle.bodies.specs.Bodies.{decoded}
 use Rattle.plans.specs.Contracts.{askPlanChecks, orderChecks, planChecks}
 use Rattle.records.specs.declared.Found.{Found}
 use Rattle.records.specs.Records.{bodyLength, recordLength, recordOf, encoded, chipNumberIn, tableNumberIn, bodyIn, noPlan, planOf, planIn}
-use Rattle.records.specs.Parts.{Refuses, Puts}
+use Rattle.records.specs.Parts.{Refuses, PutsRecord}
 use Rattle.records.specs.Contracts.{wrongMark, bodyChecks, bodyPlanChecks, recordChecks, writeChecks, TakesBody, ReadsRecord, WritesRecord}
 use Rattle.bodies.proofs.Laws.{decoded-chip, decoded-table}
 
 -- what an answer with a count says of the call
-pub told-of : (checks : List Check) (value n : ℕ) (r : Count) → r ≡ counted.Of n → tellsCount r ≡ told checks value
+pub told-of : (checks : List Check) (value n : ℕ) (r : Amount) → r ≡ amount.Of n → tellsAmount r ≡ told checks value
     → (first checks ≡ 0) × (n ≡ value)
 told-of checks value n r e t =
-    let both : (0, n) ≡ told checks value = ap tellsCount (sym e) ∙ t in
+    let both : (0, n) ≡ told checks value = ap tellsAmount (sym e) ∙ t in
     let none : first checks ≡ 0 = sym (ap (λ (p : ℕ × ℕ). p .0) both) in
     (none, ap (λ (p : ℕ × ℕ). p .1) both ∙ sym (when-passed value 0 none))
 
 -- a body that lacks nothing
-pub record Whole (number table : ℕ) (bytes : List ℕ) : Type 0 where
+pub record WholeBody (number table : ℕ) (bytes : List ℕ) : Type 0 where
   pub chip : Chip
   pub named : chipOf number ≡ Known chip
   pub has : hasTable chip table ≡ true
   pub long : bodyLength chip ≤ length bytes
 
-pub whole-body : (number table : ℕ) (bytes : List ℕ) → first (bodyChecks number table bytes) ≡ 0 → Whole number table bytes
+pub whole-body : (number table : ℕ) (bytes : List ℕ) → first (bodyChecks number table bytes) ≡ 0 → WholeBody number table bytes
 whole-body number table bytes h =
     let p = all-passed (bodyChecks number table bytes) refl h in
     let known = chip-known number (p .0) in
@@ -66,7 +66,7 @@ whole-body number table bytes h =
       long = ltb-false (length bytes) (bodyLength (known .chip)) (rw (known .named) at (p .1 .1 .0));
     }
 
-module _ (number table : ℕ) (bytes : List ℕ) (W : Whole number table bytes) where
+module _ (number table : ℕ) (bytes : List ℕ) (W : WholeBody number table bytes) where
   -- the plan in it
   abbrev pub bodyPlan : Plan
   bodyPlan = decoded (shapeOf (W .chip) table) number table bytes
@@ -91,7 +91,7 @@ module _ (number table : ℕ) (bytes : List ℕ) (W : Whole number table bytes) 
   whole-judged more = rw (W .named, same-chip, same-table, W .has, long-enough)
 
   pub plan-accepted : (n : ℕ) (plan : Plan) → n ≡ bodyLength (W .chip) → plan ≡ bodyPlan
-      → TakesBody number table bytes (record { answer = counted.Of n; plan = plan })
+      → TakesBody number table bytes (record { answer = amount.Of n; plan = plan })
   plan-accepted n plan e d =
       let used : n ≡ whenKnown (chipOf number) bodyLength 0 = rw (W .named) e in
       let read : plan ≡ planOf number table bytes = rw (W .named) d in
@@ -104,17 +104,17 @@ pub plan-refused : (number table : ℕ) (bytes : List ℕ) {refusal : Refusal} {
     → numberOf refusal ≡ first (bodyChecks number table bytes) → TakesBody number table bytes r
 plan-refused number table bytes {refusal} R e =
     record {
-      answer = ap tellsCount (R .answer) ∙ told-refused refusal (bodyChecks number table bytes) _ e;
+      answer = ap tellsAmount (R .answer) ∙ told-refused refusal (bodyChecks number table bytes) _ e;
       plan = R .plan ∙ when-refused refusal (planOf number table bytes) noPlan e;
     }
 
 -- what an accepted body says: it lacks nothing, and the plan is the one in it
 pub record Taken (number table : ℕ) (bytes : List ℕ) (n : ℕ) (plan : Plan) : Type 0 where
-  pub whole : Whole number table bytes
+  pub whole : WholeBody number table bytes
   pub used : n ≡ bodyLength (whole .chip)
   pub plan-in : plan ≡ bodyPlan number table bytes whole
 
-pub plan-taken : (number table : ℕ) (bytes : List ℕ) (n : ℕ) (r : Found) → TakesBody number table bytes r → r .answer ≡ counted.Of n
+pub plan-taken : (number table : ℕ) (bytes : List ℕ) (n : ℕ) (r : Found) → TakesBody number table bytes r → r .answer ≡ amount.Of n
     → Taken number table bytes n (r .plan)
 plan-taken number table bytes n r P e =
     let t = told-of (bodyChecks number table bytes) (whenKnown (chipOf number) bodyLength 0) n (r .answer) e (P .answer) in
@@ -130,7 +130,7 @@ pub record-refused : (bytes : List ℕ) {refusal : Refusal} {r : Found} → Refu
     → numberOf refusal ≡ first (recordChecks bytes) → ReadsRecord bytes r
 record-refused bytes {refusal} R e =
     record {
-      answer = ap tellsCount (R .answer) ∙ told-refused refusal (recordChecks bytes) _ e;
+      answer = ap tellsAmount (R .answer) ∙ told-refused refusal (recordChecks bytes) _ e;
       plan = R .plan ∙ when-refused refusal (planIn bytes) noPlan e;
     }
 
@@ -153,10 +153,10 @@ marked-checks bytes M = rw (le-ltb (length bytes) 4 (M .long), M .mark)
 
 -- one whose body is refused is refused as its body is
 pub record-cut : (bytes : List ℕ) (refusal : Refusal) (r : Found) → Marked bytes
-    → TakesBody (chipNumberIn bytes) (tableNumberIn bytes) (bodyIn bytes) r → r .answer ≡ counted.Refused refusal → ReadsRecord bytes r
+    → TakesBody (chipNumberIn bytes) (tableNumberIn bytes) (bodyIn bytes) r → r .answer ≡ amount.Refused refusal → ReadsRecord bytes r
 record-cut bytes refusal r M P e =
     let checks = bodyChecks (chipNumberIn bytes) (tableNumberIn bytes) (bodyIn bytes) in
-    let number : numberOf refusal ≡ first checks = ap (λ (t : ℕ × ℕ). t .0) (ap tellsCount (sym e) ∙ P .answer) in
+    let number : numberOf refusal ≡ first checks = ap (λ (t : ℕ × ℕ). t .0) (ap tellsAmount (sym e) ∙ P .answer) in
     let all : numberOf refusal ≡ first (recordChecks bytes) =
     number
     ∙ sym (first-refused checks (orderChecks (planIn bytes)) (omega (arith, numberOf-positive refusal)))
@@ -166,7 +166,7 @@ record-cut bytes refusal r M P e =
 -- one that lacks nothing is judged as its plan is
 pub record Complete (bytes : List ℕ) : Type 0 where
   pub marked : Marked bytes
-  pub whole : Whole (chipNumberIn bytes) (tableNumberIn bytes) (bodyIn bytes)
+  pub whole : WholeBody (chipNumberIn bytes) (tableNumberIn bytes) (bodyIn bytes)
 
 abbrev pub recordPlan : (bytes : List ℕ) → Complete bytes → Plan
 recordPlan bytes C = bodyPlan (chipNumberIn bytes) (tableNumberIn bytes) (bodyIn bytes) (C .whole)
@@ -177,7 +177,7 @@ complete-judged bytes C =
 
 pub record-accepted : (bytes : List ℕ) (n : ℕ) (plan : Plan) (C : Complete bytes) → first (recordChecks bytes) ≡ 0
     → n ≡ recordLength (C .whole .chip) → plan ≡ recordPlan bytes C
-    → ReadsRecord bytes (record { answer = counted.Of n; plan = plan })
+    → ReadsRecord bytes (record { answer = amount.Of n; plan = plan })
 record-accepted bytes n plan C none e d =
     let used : n ≡ whenKnown (chipOf (chipNumberIn bytes)) recordLength 0 = rw (C .whole .named) e in
     let read : plan ≡ planIn bytes = rw (C .whole .named) d in
@@ -188,7 +188,7 @@ record-accepted bytes n plan C none e d =
 
 -- a refused write alters no byte
 pub write-refused : (plan : Plan) (old : List ℕ) (refusal : Refusal) → numberOf refusal ≡ first (planChecks plan)
-    → WritesRecord plan old (counted.Refused refusal) old
+    → WritesRecord plan old (amount.Refused refusal) old
 write-refused plan old refusal e =
     let f = e ∙ sym (first-refused (planChecks plan) (roomChecks (length (encoded plan)) old) (rw (sym e) (numberOf-positive refusal))) in
     record {
@@ -198,7 +198,7 @@ write-refused plan old refusal e =
 
 -- a record is put where there is room, from bytes that begin with it
 module _ (chip : Chip) (plan : Plan) (old : List ℕ) where
-  pub put-short : length old < length (recordOf chip plan) → Puts chip plan old (counted.Refused Refusal.OutputTooShort) old
+  pub put-short : length old < length (recordOf chip plan) → PutsRecord chip plan old (amount.Refused Refusal.OutputTooShort) old
   put-short h =
       let f : 9 ≡ first (roomChecks (length (recordOf chip plan)) old) = rw (lt-ltb (length old) (length (recordOf chip plan)) h) in
       record {
@@ -207,7 +207,7 @@ module _ (chip : Chip) (plan : Plan) (old : List ℕ) where
       }
 
   pub put-whole : (n : ℕ) (bytes new : List ℕ) → n ≡ length (recordOf chip plan) → take n bytes ≡ recordOf chip plan → n ≤ length old
-      → new ≡ paste old 0 bytes n → Puts chip plan old (counted.Of n) new
+      → new ≡ paste old 0 bytes n → PutsRecord chip plan old (amount.Of n) new
   put-whole n bytes new e front h copied =
       let checks = roomChecks (length (recordOf chip plan)) old in
       let f : first checks ≡ 0 = rw (le-ltb (length old) (length (recordOf chip plan)) (omega arith)) in
@@ -218,7 +218,7 @@ module _ (chip : Chip) (plan : Plan) (old : List ℕ) where
       }
 
   -- an accepted plan is refused only for want of room
-  pub write-put : {r : Count} {new : List ℕ} → chipOf (plan .chip) ≡ Known chip → first (planChecks plan) ≡ 0 → Puts chip plan old r new
+  pub write-put : {r : Amount} {new : List ℕ} → chipOf (plan .chip) ≡ Known chip → first (planChecks plan) ≡ 0 → PutsRecord chip plan old r new
       → WritesRecord plan old r new
   write-put named judged p =
       let checks = roomChecks (length (recordOf chip plan)) old in

@@ -11,9 +11,9 @@ use lib.ListN.{length, getD, take, drop, length-append, length-drop}
 use lib.Seq.{getD-drop, length-take-le}
 use Rattle.refusal.specs.Checks.{first, roomChecks}
 use Rattle.refusal.proofs.Passed.{all-passed, first-passed, first-front, when-passed, told-passed}
-use Rattle.refusal.specs.declared.Count.{Count}
-use Rattle.refusal.specs.declared.Count.the-variants as counted
-use Rattle.refusal.proofs.Answers.{tellsCount-injective}
+use Rattle.refusal.specs.declared.Amount.{Amount}
+use Rattle.refusal.specs.declared.Amount.the-variants as amount
+use Rattle.refusal.proofs.Answers.{tellsAmount-injective}
 use Rattle.cards.specs.declared.types.Chip.{Chip}
 use Rattle.cards.specs.declared.types.Named.the-variants.{Known}
 use Rattle.cards.specs.Cards.{chipOf, whenKnown, shapeOf}
@@ -79,13 +79,13 @@ complete-encoded bytes C small =
     ∙ header-split bytes (bodyLength chip) (C .marked .long)
 
 -- what an accepted read says: whose record it is, its length, and the record of the plan
-pub record Accepts (bytes : List ℕ) (n : ℕ) (plan : Plan) : Type 0 where
+pub record ReadAccepted (bytes : List ℕ) (n : ℕ) (plan : Plan) : Type 0 where
   pub within : n ≤ length bytes
   pub judged : first (planChecks plan) ≡ 0
   pub record-of : encoded plan ≡ take n bytes
 
-pub read-accepts : (bytes : List ℕ) (n : ℕ) (q : Found) → ((k : ℕ) → getD bytes k 0 < 256) → ReadsRecord bytes q → q .answer ≡ counted.Of n
-    → Accepts bytes n (q .plan)
+pub read-accepts : (bytes : List ℕ) (n : ℕ) (q : Found) → ((k : ℕ) → getD bytes k 0 < 256) → ReadsRecord bytes q → q .answer ≡ amount.Of n
+    → ReadAccepted bytes n (q .plan)
 read-accepts bytes n q small R e =
     let t = told-of (recordChecks bytes) (whenKnown (chipOf (chipNumberIn bytes)) recordLength 0) n (q .answer) e (R .answer) in
     let C = whole-record bytes (t .0) in
@@ -102,7 +102,7 @@ read-accepts bytes n q small R e =
 -- A plan has one encoding: bytes that are read as the same plan are the same, as far as they are used
 pub one-encoding : (bytes other : List ℕ) (n m : ℕ) (q s : Found)
     → ((k : ℕ) → getD bytes k 0 < 256) → ((k : ℕ) → getD other k 0 < 256)
-    → ReadsRecord bytes q → ReadsRecord other s → q .answer ≡ counted.Of n → s .answer ≡ counted.Of m → q .plan ≡ s .plan
+    → ReadsRecord bytes q → ReadsRecord other s → q .answer ≡ amount.Of n → s .answer ≡ amount.Of m → q .plan ≡ s .plan
     → (n ≡ m) × (take n bytes ≡ take m other)
 one-encoding bytes other n m q s small small′ R R′ e e′ same =
     let A = read-accepts bytes n q small R e in
@@ -111,15 +111,15 @@ one-encoding bytes other n m q s small small′ R R′ e e′ same =
     (sym (length-take-le n bytes (A .within)) ∙ ap length fronts ∙ length-take-le m other (B .within), fronts)
 
 -- what was read is written back as exactly the bytes used
-pub read-written : (bytes : List ℕ) (n : ℕ) (q : Found) (old : List ℕ) (r : Count) (new : List ℕ)
-    → ((k : ℕ) → getD bytes k 0 < 256) → ReadsRecord bytes q → q .answer ≡ counted.Of n → WritesRecord (q .plan) old r new → n ≤ length old
-    → (r ≡ counted.Of n) × (new ≡ take n bytes ++ drop n old)
+pub read-written : (bytes : List ℕ) (n : ℕ) (q : Found) (old : List ℕ) (r : Amount) (new : List ℕ)
+    → ((k : ℕ) → getD bytes k 0 < 256) → ReadsRecord bytes q → q .answer ≡ amount.Of n → WritesRecord (q .plan) old r new → n ≤ length old
+    → (r ≡ amount.Of n) × (new ≡ take n bytes ++ drop n old)
 read-written bytes n q old r new small R e W room =
     let A = read-accepts bytes n q small R e in
     let size : length (encoded (q .plan)) ≡ n = ap length (A .record-of) ∙ length-take-le n bytes (A .within) in
     let fits : first (roomChecks (length (encoded (q .plan))) old) ≡ 0 = rw (le-ltb (length old) (length (encoded (q .plan))) (omega arith)) in
     let none = first-passed (planChecks (q .plan)) (roomChecks (length (encoded (q .plan))) old) refl (A .judged) ∙ fits in (
-      tellsCount-injective r (counted.Of n)
+      tellsAmount-injective r (amount.Of n)
           (W .answer ∙ sym (told-passed (writeChecks (q .plan) old) (length (encoded (q .plan))) none) ∙ ap (λ (k : ℕ). (0, k)) size),
       W .bytes
           ∙ sym (when-passed (encoded (q .plan) ++ drop (length (encoded (q .plan))) old) old none)
@@ -129,7 +129,7 @@ read-written bytes n q old r new small R e W room =
 -- a plan's record, with whatever bytes stand behind it
 record-read : (chip : Chip) (plan : Plan) (rest : List ℕ) (q : Found) → Sized plan → chipOf (plan .chip) ≡ Known chip
     → first (planChecks plan) ≡ 0 → ReadsRecord (recordOf chip plan ++ rest) q
-    → (q .answer ≡ counted.Of (length (recordOf chip plan))) × (q .plan ≡ ownOf (shapeOf chip (plan .table)) plan)
+    → (q .answer ≡ amount.Of (length (recordOf chip plan))) × (q .plan ≡ ownOf (shapeOf chip (plan .table)) plan)
 record-read chip plan rest q S e accepts R =
     let bytes = recordOf chip plan ++ rest in
     let has = passed-plan chip plan e accepts .has in
@@ -145,7 +145,7 @@ record-read chip plan rest q S e accepts R =
     sym (complete-judged bytes C) ∙ ap (λ (p : Plan). first (planChecks p)) back ∙ own-judged chip plan e ∙ accepts in
     let used-bytes : whenKnown (chipOf (plan .chip)) recordLength 0 ≡ length (recordOf chip plan) = rw e (sym (record-of-plan chip plan S has)) in
     let plan-in : planIn bytes ≡ ownOf (shapeOf chip (plan .table)) plan = rw e back in (
-      tellsCount-injective (q .answer) (counted.Of (length (recordOf chip plan)))
+      tellsAmount-injective (q .answer) (amount.Of (length (recordOf chip plan)))
           (R .answer
           ∙ sym (told-passed (recordChecks bytes) (whenKnown (chipOf (plan .chip)) recordLength 0) none)
           ∙ ap (λ (k : ℕ). (0, k)) used-bytes),
@@ -153,23 +153,23 @@ record-read chip plan rest q S e accepts R =
     )
 
 named-read : (chip : Chip) (plan : Plan) (rest : List ℕ) (q : Found) → Sized plan → chipOf (plan .chip) ≡ Known chip
-    → first (planChecks plan) ≡ 0 → ReadsRecord (encoded plan ++ rest) q → (q .answer ≡ counted.Of (length (encoded plan))) × (q .plan ≡ own plan)
+    → first (planChecks plan) ≡ 0 → ReadsRecord (encoded plan ++ rest) q → (q .answer ≡ amount.Of (length (encoded plan))) × (q .plan ≡ own plan)
 named-read chip plan rest q S e accepts = rw e (record-read chip plan rest q S e accepts)
 
 -- what is written is read back: all of it, and the plan with the other chip's values zero
-pub written-read : (plan : Plan) (old : List ℕ) (n : ℕ) (r : Count) (new : List ℕ) (q : Found) → Sized plan
-    → WritesRecord plan old r new → r ≡ counted.Of n → ReadsRecord new q → (q .answer ≡ counted.Of n) × (q .plan ≡ own plan)
+pub written-read : (plan : Plan) (old : List ℕ) (n : ℕ) (r : Amount) (new : List ℕ) (q : Found) → Sized plan
+    → WritesRecord plan old r new → r ≡ amount.Of n → ReadsRecord new q → (q .answer ≡ amount.Of n) × (q .plan ≡ own plan)
 written-read plan old n r new q S W e R =
     let t = told-of (writeChecks plan old) (length (encoded plan)) n r e (W .answer) in
     let accepts = first-front (planChecks plan) (roomChecks (length (encoded plan)) old) refl (t .0) in
     let known = chip-known (plan .chip) (accepted-known plan accepts) in
     let wrote : new ≡ encoded plan ++ drop (length (encoded plan)) old = W .bytes ∙ sym (when-passed _ old (t .0)) in
     let back = named-read (known .chip) plan (drop (length (encoded plan)) old) q S (known .named) accepts (rw wrote at R) in
-    (back .0 ∙ ap counted.Of (sym (t .1)), back .1)
+    (back .0 ∙ ap amount.Of (sym (t .1)), back .1)
 
 -- "only such plans come back equal from their record": those whose other chip's values are zero
-pub comes-back : (plan : Plan) (old : List ℕ) (n : ℕ) (r : Count) (new : List ℕ) (q : Found) → Sized plan
-    → WritesRecord plan old r new → r ≡ counted.Of n → ReadsRecord new q
+pub comes-back : (plan : Plan) (old : List ℕ) (n : ℕ) (r : Amount) (new : List ℕ) (q : Found) → Sized plan
+    → WritesRecord plan old r new → r ≡ amount.Of n → ReadsRecord new q
     → (own plan ≡ plan → q .plan ≡ plan) × (q .plan ≡ plan → own plan ≡ plan)
 comes-back plan old n r new q S W e R =
     let back = written-read plan old n r new q S W e R .1 in

@@ -6,8 +6,8 @@ use mathlib.Core.Bool.{Bool, false, cond, not, _&&_}
 use mathlib.Core.List.{List, [], _∷_, _++_}
 use lib.Dec.{eqb, ltb}
 use lib.ListN.{length, getD, drop}
-use Rattle.refusal.specs.declared.Count.{Count}
-use Rattle.refusal.specs.Answers.{tellsCount}
+use Rattle.refusal.specs.declared.Amount.{Amount}
+use Rattle.refusal.specs.Answers.{tellsAmount}
 use Rattle.refusal.specs.Checks.{Check, first, told, left, roomChecks}
 use Rattle.cards.specs.Cards.{chipOf, whenKnown, unknown, noTable}
 use Rattle.curves.specs.declared.Plan.{Plan}
@@ -46,20 +46,20 @@ writeChecks plan out = planChecks plan ++ roomChecks (length (encoded plan)) out
 
 -- what `records::plan_from` promises: the plan, and how many of the bytes are its body. They are only read, so they are what they were.
 pub record TakesBody (chip table : ℕ) (bytes : List ℕ) (r : Found) : Type 0 where
-  pub answer : tellsCount (r .answer) ≡ told (bodyChecks chip table bytes) (whenKnown (chipOf chip) bodyLength 0)
+  pub answer : tellsAmount (r .answer) ≡ told (bodyChecks chip table bytes) (whenKnown (chipOf chip) bodyLength 0)
   pub plan : r .plan ≡ cond (eqb (first (bodyChecks chip table bytes)) 0) (planOf chip table bytes) noPlan
 
 -- what `records::read` promises: "The reader answers the plan and the bytes used". The bytes are only read, so they are what they were.
 pub record ReadsRecord (bytes : List ℕ) (r : Found) : Type 0 where
-  pub answer : tellsCount (r .answer) ≡ told (recordChecks bytes) (whenKnown (chipOf (chipNumberIn bytes)) recordLength 0)
+  pub answer : tellsAmount (r .answer) ≡ told (recordChecks bytes) (whenKnown (chipOf (chipNumberIn bytes)) recordLength 0)
   pub plan : r .plan ≡ cond (eqb (first (recordChecks bytes)) 0) (planIn bytes) noPlan
 
 -- what a call that writes a plan's record promises, by its own list of checks: "An output longer than the result keeps its tail", and a refused
 -- one holds what it held ..
-pub record WritesRecordBy (checks : List Check) (plan : Plan) (old : List ℕ) (r : Count) (new : List ℕ) : Type 0 where
-  pub answer : tellsCount r ≡ told checks (length (encoded plan))
+pub record WritesRecordBy (checks : List Check) (plan : Plan) (old : List ℕ) (r : Amount) (new : List ℕ) : Type 0 where
+  pub answer : tellsAmount r ≡ told checks (length (encoded plan))
   pub bytes : new ≡ left checks (encoded plan ++ drop (length (encoded plan)) old) old
 
 -- .. and so what `records::write` promises
-abbrev pub WritesRecord : Plan → List ℕ → Count → List ℕ → Type 0
+abbrev pub WritesRecord : Plan → List ℕ → Amount → List ℕ → Type 0
 WritesRecord plan old r new = WritesRecordBy (writeChecks plan old) plan old r new

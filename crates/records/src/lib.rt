@@ -8,7 +8,7 @@ use curves::NO_SLOPE;
 use curves::NO_STEPS;
 use curves::Plan;
 use images::Admitted;
-use refusal::Count;
+use refusal::Amount;
 use refusal::Outcome;
 use refusal::Refusal;
 ghost use mathlib.Core.Path.{_≡_};
@@ -20,12 +20,12 @@ ghost use Rattle.cards.specs.Rows.{column};
 ghost use Rattle.cards.specs.Sheets.{room};
 ghost use Rattle.cards.specs.Cards.{hasTable};
 ghost use Rattle.records.specs.Records.{header};
-ghost use Rattle.records.specs.Parts.{Refuses, front, Puts};
+ghost use Rattle.records.specs.Parts.{Refuses, front, PutsRecord};
 ghost use Rattle.records.specs.Contracts.{TakesBody, ReadsRecord, WritesRecord};
 
 // What is read: the bytes used, and the plan, which is all zeros where the record is refused.
 pub struct Found {
-    pub answer: Count,
+    pub answer: Amount,
     pub plan: Plan,
 }
 
@@ -33,7 +33,7 @@ fn refused(refusal: Refusal) -> Found
     ensures { λ r. ⌜ Refuses refusal r ⌝ }
 {
     Found {
-        answer: Count::Refused(refusal),
+        answer: Amount::Refused(refusal),
         plan: Plan {
             chip: 0,
             table: 0,
@@ -115,7 +115,7 @@ pub fn plan_from(chip: u8, table: u8, bytes: &[u8]) -> Found
     }
     let shape = layout.shape;
     Found {
-        answer: Count::Of(length),
+        answer: Amount::Of(length),
         plan: bodies::plan_of(shape, chip, table, body_in(shape, bytes)),
     }
 }
@@ -132,7 +132,7 @@ pub fn read(bytes: &[u8]) -> Found
     }
     let found = plan_from(bytes[2], bytes[3], &bytes[4..]);
     let answer = found.answer;
-    let Count::Of(length) = answer else {
+    let Amount::Of(length) = answer else {
         return found;
     };
     let plan = found.plan;
@@ -140,7 +140,7 @@ pub fn read(bytes: &[u8]) -> Found
         return refused(refusal);
     }
     Found {
-        answer: Count::Of(4 + length),
+        answer: Amount::Of(4 + length),
         plan,
     }
 }
@@ -175,29 +175,29 @@ fn record_of(chip: u8, table: u8, body: [u8; LONGEST]) -> [u8; LONGEST_RECORD]
 }
 
 // Writes the record of a chip's plan to the front of the buffer.
-fn put(chip: Chip, plan: Plan, out: &mut [u8]) -> Count
+fn put(chip: Chip, plan: Plan, out: &mut [u8]) -> Amount
     requires { ⌜ So (hasTable chip (plan .table)) ⌝ }
-    ensures { λ r. ⌜ Puts chip plan (now (out .entry)) r (now (out .exit)) ⌝ }
+    ensures { λ r. ⌜ PutsRecord chip plan (now (out .entry)) r (now (out .exit)) ⌝ }
 {
     let layout = cards::layout_of(chip, plan.table);
     let length = 4 + layout.settings + layout.speeds;
     if out.len() < length {
-        return Count::Refused(Refusal::OutputTooShort);
+        return Amount::Refused(Refusal::OutputTooShort);
     }
     let shape = layout.shape;
     let bytes = record_of(plan.chip, plan.table, bodies::body_of(shape, plan));
     for at in 0..length {
         out[at] = bytes[at];
     }
-    Count::Of(length)
+    Amount::Of(length)
 }
 
 // Writes a plan's record to the front of the buffer, and answers its length.
-pub fn write(plan: Plan, out: &mut [u8]) -> Count
+pub fn write(plan: Plan, out: &mut [u8]) -> Amount
     ensures { λ r. ⌜ WritesRecord plan (now (out .entry)) r (now (out .exit)) ⌝ }
 {
     match plans::accept(plan) {
-        Admitted::Refused(refusal) => Count::Refused(refusal),
+        Admitted::Refused(refusal) => Amount::Refused(refusal),
         Admitted::Known(chip) => put(chip, plan, out),
     }
 }

@@ -15,17 +15,17 @@ use Rattle.refusal.specs.Refusals.{numberOf}
 use Rattle.refusal.specs.Checks.{Check, first, left, roomChecks}
 use Rattle.refusal.proofs.Numbers.{numberOf-positive}
 use Rattle.refusal.proofs.Passed.{numbered, first-passed, first-refused, when-refused, told-refused}
-use Rattle.refusal.specs.declared.Count.{Count}
-use Rattle.refusal.specs.declared.Count.the-variants as counted
+use Rattle.refusal.specs.declared.Amount.{Amount}
+use Rattle.refusal.specs.declared.Amount.the-variants as amount
 use Rattle.cards.specs.declared.types.Chip.{Chip}
 use Rattle.curves.specs.declared.Plan.{Plan}
 use Rattle.curves.specs.Values.{Sized}
 use Rattle.plans.specs.Contracts.{planChecks}
 use Rattle.scripts.specs.declared.making.Load.{Load}
 use Rattle.scripts.specs.Scripts.{Pair, flat, scriptOf, scriptFor}
-use Rattle.scripts.specs.Plays.{played}
+use Rattle.scripts.specs.Played.{played}
 use Rattle.scripts.specs.Contracts.{scriptChecks, Scripts, Makes}
-use Rattle.scripts.specs.Making.{writesOf, pairsOf, madeOf, loadOf, bytesOf, Puts}
+use Rattle.scripts.specs.Making.{writesOf, pairsOf, madeOf, loadOf, bytesOf, PutsPairs}
 use Rattle.scripts.proofs.Turns.{pairs-length}
 use Rattle.scripts.proofs.Prepared.{load-writes, load-makes}
 
@@ -45,13 +45,13 @@ module _ (plan : Plan) (out : List ℕ) where
   abbrev pairs : List Pair
   pairs = scriptFor plan
 
-  pub script-refused : (r : Refusal) → numberOf r ≡ first (planChecks plan) → Scripts plan out (counted.Refused r) out
+  pub script-refused : (r : Refusal) → numberOf r ≡ first (planChecks plan) → Scripts plan out (amount.Refused r) out
   script-refused r e =
       let all = still-refused r (planChecks plan) (roomChecks (2 * length pairs) out) e in
       record { answer = told-refused r (scriptChecks plan out) (length pairs) all; bytes = when-refused r _ out all }
 
-  pub script-put : {l : Load} {bytes new : List ℕ} {r : Count} → first (planChecks plan) ≡ 0 → pairsOf l bytes (writesOf l) ≡ pairs
-      → Puts l bytes out r new
+  pub script-put : {l : Load} {bytes new : List ℕ} {r : Amount} → first (planChecks plan) ≡ 0 → pairsOf l bytes (writesOf l) ≡ pairs
+      → PutsPairs l bytes out r new
       → Scripts plan out r new
   script-put {l} {bytes} {new} {r} e whole p =
       let writes : writesOf l ≡ length pairs = sym (pairs-length l bytes (writesOf l)) ∙ ap length whole in

@@ -14,9 +14,9 @@ use Rattle.refusal.specs.declared.Refusal.{Refusal}
 use Rattle.refusal.specs.Refusals.{numberOf}
 use Rattle.refusal.specs.Checks.{first, roomChecks}
 use Rattle.refusal.proofs.Passed.{told-passed}
-use Rattle.refusal.specs.declared.Count.{Count}
-use Rattle.refusal.specs.declared.Count.the-variants as counted
-use Rattle.refusal.specs.Answers.{tellsCount}
+use Rattle.refusal.specs.declared.Amount.{Amount}
+use Rattle.refusal.specs.declared.Amount.the-variants as amount
+use Rattle.refusal.specs.Answers.{tellsAmount}
 use Rattle.curves.specs.declared.Plan.{Plan}
 use Rattle.plans.specs.Contracts.{planChecks}
 use Rattle.scripts.specs.Scripts.{Pair, flat, pairsIn, scriptFor}
@@ -40,25 +40,25 @@ pairs-flat ps rest (suc n) h =
     ap₂ (λ (l : List Pair) (w : Pair). l ++ (w ∷ [])) (pairs-flat ps rest n (omega arith)) (flat-at ps rest n h)
     ∙ sym (take-suc ps n (0, 0) h)
 
-module _ {plan : Plan} {old bytes : List ℕ} {r : Count} (short : first (planChecks plan) ≡ 0 → length (scriptFor plan) ≤ 24) (room : length old ≡ 48)
+module _ {plan : Plan} {old bytes : List ℕ} {r : Amount} (short : first (planChecks plan) ≡ 0 → length (scriptFor plan) ≤ 24) (room : length old ≡ 48)
     (s : Scripts plan old r bytes) where
   judged : first (scriptChecks plan old) ≡ first (planChecks plan)
   judged =
       first-alone (planChecks plan) (roomChecks (2 * length (scriptFor plan)) old) refl
       (λ e. rw (le-ltb (length old) (2 * length (scriptFor plan)) (omega (arith, short e))))
 
-  pub refused-by-plan : (q : Refusal) → r ≡ counted.Refused q → numberOf q ≡ first (planChecks plan)
-  refused-by-plan q e = ap (λ (t : ℕ × ℕ). t .0) (sym (ap tellsCount e) ∙ s .answer) ∙ judged
+  pub refused-by-plan : (q : Refusal) → r ≡ amount.Refused q → numberOf q ≡ first (planChecks plan)
+  refused-by-plan q e = ap (λ (t : ℕ × ℕ). t .0) (sym (ap tellsAmount e) ∙ s .answer) ∙ judged
 
-  module _ (n : ℕ) (e : r ≡ counted.Of n) where
+  module _ (n : ℕ) (e : r ≡ amount.Of n) where
     pub accepted-plan : first (planChecks plan) ≡ 0
-    accepted-plan = sym (ap (λ (t : ℕ × ℕ). t .0) (sym (ap tellsCount e) ∙ s .answer) ∙ judged)
+    accepted-plan = sym (ap (λ (t : ℕ × ℕ). t .0) (sym (ap tellsAmount e) ∙ s .answer) ∙ judged)
 
     none : first (scriptChecks plan old) ≡ 0
     none = judged ∙ accepted-plan
 
     pub count : n ≡ length (scriptFor plan)
-    count = ap (λ (t : ℕ × ℕ). t .1) (sym (ap tellsCount e) ∙ s .answer ∙ sym (told-passed (scriptChecks plan old) (length (scriptFor plan)) none))
+    count = ap (λ (t : ℕ × ℕ). t .1) (sym (ap tellsAmount e) ∙ s .answer ∙ sym (told-passed (scriptChecks plan old) (length (scriptFor plan)) none))
 
     pub first-pairs : (k : ℕ) → k ≤ n → pairsIn k bytes ≡ take k (scriptFor plan)
     first-pairs k h =

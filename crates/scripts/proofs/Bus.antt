@@ -10,7 +10,7 @@ use Rattle.cards.specs.Cards.{rowOf}
 use Rattle.images.specs.Bytes.{position, placed, written}
 use Rattle.images.proofs.Laws.{lands, storedAt-length}
 use Rattle.scripts.specs.Scripts.{Pair, bus}
-use Rattle.scripts.specs.Plays.{laid, played, stops}
+use Rattle.scripts.specs.Played.{laid, played, stops}
 
 -- today a write on the bus is a write by position, and nothing comes between them
 pub bus-plain : (chip : Chip) (ws : List Pair) → bus chip ws ≡ ws

@@ -8,7 +8,7 @@ use mathlib.Core.List.{List, [], _∷_, _++_}
 use borrow.Author.Tests.{not-false}
 use lib.ListN.{length, length-append}
 use Rattle.refusal.specs.Checks.{first}
-use Rattle.refusal.specs.declared.Count.the-variants as counted
+use Rattle.refusal.specs.declared.Amount.the-variants as amount
 use Rattle.refusal.proofs.Passed.{all-passed, when-passed}
 use Rattle.cards.specs.declared.types.Chip.{Chip}
 use Rattle.cards.specs.declared.types.Chip.the-variants.{Nct7802y, F75373s}
@@ -46,7 +46,7 @@ script-of-shape chip plan sized has =
 
 -- "The answer says how many writes."
 pub script-counts : {plan : Plan} {out new : List ℕ} {n : ℕ} (chip : Chip) → chipOf (plan .chip) ≡ Known chip → Sized plan
-    → Scripts plan out (counted.Of n) new → n ≡ scriptLength chip
+    → Scripts plan out (amount.Of n) new → n ≡ scriptLength chip
 script-counts {plan} {out} {new} {n} chip e sized p =
     let none : first (scriptChecks plan out) ≡ 0 = sym (ap (λ (t : ℕ × ℕ). t .0) (p .answer)) in
     let has = not-false (hasTable chip (plan .table)) (rw e at (all-passed (scriptChecks plan out) refl none .1 .0)) in

@@ -26,7 +26,7 @@ use Rattle.plans.specs.Plans.{plannedFor}
 use Rattle.plans.proofs.Fits.{settings-long, speeds-long}
 use Rattle.scripts.specs.declared.making.Load.{Load}
 use Rattle.scripts.specs.Scripts.{Pair, script, placements, scriptOf}
-use Rattle.scripts.specs.Plays.{laid, played}
+use Rattle.scripts.specs.Played.{laid, played}
 use Rattle.scripts.specs.Making.{writesOf, writeAt, pairsOf, madeOf, Short, loadOf, placeAt, byteAt, bytesOf}
 use Rattle.scripts.proofs.Bus.{bus-plain, bus-cut, laid-append}
 use Rattle.scripts.proofs.Pairs.{nothing, script-length, raised-at, body-at}

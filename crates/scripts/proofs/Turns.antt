@@ -13,14 +13,14 @@ use lib.Seq.{drop-cons, set-at}
 use Rattle.refusal.specs.declared.Refusal.the-variants.{OutputTooShort}
 use Rattle.refusal.specs.Checks.{first, roomChecks}
 use Rattle.refusal.proofs.Passed.{when-passed, when-refused, told-passed, told-refused}
-use Rattle.refusal.specs.declared.Count.the-variants as counted
+use Rattle.refusal.specs.declared.Amount.the-variants as amount
 use Rattle.cards.proofs.Tables.{register-byte}
 use Rattle.images.specs.Bytes.{storedAt}
 use Rattle.images.proofs.Laws.{storedAt-length}
 use Rattle.scripts.specs.declared.making.Load.{Load}
 use Rattle.scripts.specs.declared.making.Write.{Write}
 use Rattle.scripts.specs.Scripts.{Pair, flat}
-use Rattle.scripts.specs.Making.{writesOf, writeAt, pairsOf, madeOf, Puts, placeAt}
+use Rattle.scripts.specs.Making.{writesOf, writeAt, pairsOf, madeOf, PutsPairs, placeAt}
 
 flat-append : (xs ys : List Pair) → flat (xs ++ ys) ≡ flat xs ++ flat ys
 flat-append [] ys = refl
@@ -95,7 +95,7 @@ written-more {l} {bytes} {old} {out} {new} {at} {next} {k} write w h same moved 
     }
 
 -- all of them, or none where there is no room
-pub put-all : {l : Load} {bytes old out : List ℕ} {at k n : ℕ} → n ≡ writesOf l → Written l bytes old out at k → n ≤ k → Puts l bytes old (counted.Of n) out
+pub put-all : {l : Load} {bytes old out : List ℕ} {at k n : ℕ} → n ≡ writesOf l → Written l bytes old out at k → n ≤ k → PutsPairs l bytes old (amount.Of n) out
 put-all {l} {bytes} {old} {out} {at} {k} {n} e w h =
     let all : k ≡ writesOf l = omega (arith, w .within) in
     let none : first (roomChecks (2 * writesOf l) old) ≡ 0 = rw (le-ltb (length old) (2 * writesOf l) (w .room)) in
@@ -104,7 +104,7 @@ put-all {l} {bytes} {old} {out} {at} {k} {n} e w h =
       pairs = w .same ∙ ap (λ (j : ℕ). flat (pairsOf l bytes j) ++ drop (2 * j) old) all ∙ when-passed _ old none;
     }
 
-pub put-none : (l : Load) (bytes old : List ℕ) → length old < 2 * writesOf l → Puts l bytes old (counted.Refused OutputTooShort) old
+pub put-none : (l : Load) (bytes old : List ℕ) → length old < 2 * writesOf l → PutsPairs l bytes old (amount.Refused OutputTooShort) old
 put-none l bytes old h =
     let all : 9 ≡ first (roomChecks (2 * writesOf l) old) = rw (lt-ltb (length old) (2 * writesOf l) h) in
     record { answer = told-refused OutputTooShort (roomChecks (2 * writesOf l) old) (writesOf l) all; pairs = when-refused OutputTooShort _ old all }

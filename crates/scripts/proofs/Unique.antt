@@ -3,16 +3,16 @@
 use Prim.Native.Nat.{ℕ}
 use mathlib.Core.Path.{_≡_, sym, _∙_}
 use mathlib.Core.List.{List}
-use Rattle.refusal.proofs.Answers.{tellsCount-injective}
-use Rattle.refusal.specs.declared.Count.{Count}
+use Rattle.refusal.proofs.Answers.{tellsAmount-injective}
+use Rattle.refusal.specs.declared.Amount.{Amount}
 use Rattle.refusal.specs.Checks.{Check}
 use Rattle.cards.specs.declared.types.Chip.{Chip}
 use Rattle.curves.specs.declared.Plan.{Plan}
 use Rattle.scripts.specs.Contracts.{ScriptsBy, Makes}
 
-pub scripts-unique : {checks : List Check} {plan : Plan} {old : List ℕ} {r s : Count} {l m : List ℕ}
+pub scripts-unique : {checks : List Check} {plan : Plan} {old : List ℕ} {r s : Amount} {l m : List ℕ}
     → ScriptsBy checks plan old r l → ScriptsBy checks plan old s m → (r ≡ s) × (l ≡ m)
-scripts-unique {r = r} {s = s} p q = (tellsCount-injective r s (p .answer ∙ sym (q .answer)), p .bytes ∙ sym (q .bytes))
+scripts-unique {r = r} {s = s} p q = (tellsAmount-injective r s (p .answer ∙ sym (q .answer)), p .bytes ∙ sym (q .bytes))
 
 pub makes-unique : {chip : Chip} {plan : Plan} {count r s : ℕ} {old l m : List ℕ} → Makes chip plan count old r l → Makes chip plan count old s m
     → (r ≡ s) × (l ≡ m)

@@ -4,14 +4,14 @@ use Prim.Native.Nat.{ℕ, _*_, min}
 use mathlib.Core.Path.{_≡_}
 use mathlib.Core.List.{List, _++_}
 use lib.ListN.{length, take, drop}
-use Rattle.refusal.specs.declared.Count.{Count}
-use Rattle.refusal.specs.Answers.{tellsCount}
+use Rattle.refusal.specs.declared.Amount.{Amount}
+use Rattle.refusal.specs.Answers.{tellsAmount}
 use Rattle.refusal.specs.Checks.{Check, told, left, roomChecks}
 use Rattle.cards.specs.declared.types.Chip.{Chip}
 use Rattle.curves.specs.declared.Plan.{Plan}
 use Rattle.plans.specs.Contracts.{planChecks}
 use Rattle.scripts.specs.Scripts.{flat, scriptOf, scriptFor}
-use Rattle.scripts.specs.Plays.{played}
+use Rattle.scripts.specs.Played.{played}
 
 -- "Writing .. a script checks the plan by 3, 4, 6, 7 and then 9"
 abbrev pub scriptChecks : Plan → List ℕ → List Check
@@ -19,12 +19,12 @@ scriptChecks plan out = planChecks plan ++ roomChecks (2 * length (scriptFor pla
 
 -- what a call that writes a plan's script promises, by its own list of checks: "The answer says how many writes"; "An output longer than the
 -- result keeps its tail." ..
-pub record ScriptsBy (checks : List Check) (plan : Plan) (old : List ℕ) (r : Count) (new : List ℕ) : Type 0 where
-  pub answer : tellsCount r ≡ told checks (length (scriptFor plan))
+pub record ScriptsBy (checks : List Check) (plan : Plan) (old : List ℕ) (r : Amount) (new : List ℕ) : Type 0 where
+  pub answer : tellsAmount r ≡ told checks (length (scriptFor plan))
   pub bytes : new ≡ left checks (flat (scriptFor plan) ++ drop (2 * length (scriptFor plan)) old) old
 
 -- .. and so what `scripts::script` promises
-abbrev pub Scripts : Plan → List ℕ → Count → List ℕ → Type 0
+abbrev pub Scripts : Plan → List ℕ → Amount → List ℕ → Type 0
 Scripts plan old r new = ScriptsBy (scriptChecks plan old) plan old r new
 
 -- what `scripts::make` promises, which checks nothing: the first writes of a plan's script, as many as `count` says, "a number above the script's

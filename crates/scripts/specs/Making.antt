@@ -6,8 +6,8 @@ use mathlib.Core.Bool.{cond}
 use mathlib.Core.List.{List, [], _∷_, _++_}
 use lib.Dec.{ltb}
 use lib.ListN.{length, getD, drop}
-use Rattle.refusal.specs.declared.Count.{Count}
-use Rattle.refusal.specs.Answers.{tellsCount}
+use Rattle.refusal.specs.declared.Amount.{Amount}
+use Rattle.refusal.specs.Answers.{tellsAmount}
 use Rattle.refusal.specs.Checks.{told, left, roomChecks}
 use Rattle.cards.specs.declared.types.Chip.{Chip}
 use Rattle.cards.specs.Rows.{column}
@@ -68,6 +68,6 @@ abbrev pub bytesOf : Chip → Plan → List ℕ
 bytesOf chip plan = column 14 (λ k. getD (body (plannedFor chip plan)) k 0)
 
 -- all pairs at the front of a buffer, or none
-pub record Puts (l : Load) (bytes old : List ℕ) (r : Count) (new : List ℕ) : Type 0 where
-  pub answer : tellsCount r ≡ told (roomChecks (2 * writesOf l) old) (writesOf l)
+pub record PutsPairs (l : Load) (bytes old : List ℕ) (r : Amount) (new : List ℕ) : Type 0 where
+  pub answer : tellsAmount r ≡ told (roomChecks (2 * writesOf l) old) (writesOf l)
   pub pairs : new ≡ left (roomChecks (2 * writesOf l) old) (flat (pairsOf l bytes (writesOf l)) ++ drop (2 * writesOf l) old) old

@@ -6,15 +6,15 @@ mod playing;
 use cards::Chip;
 use curves::Plan;
 use images::Admitted;
-use refusal::Count;
+use refusal::Amount;
 ghost use Rattle.scripts.specs.Contracts.{Scripts, Makes};
 
 // Writes a plan's script to the front of the buffer, as pairs of address and byte.
-pub fn script(plan: Plan, out: &mut [u8]) -> Count
+pub fn script(plan: Plan, out: &mut [u8]) -> Amount
     ensures { λ r. ⌜ Scripts plan (now (out .entry)) r (now (out .exit)) ⌝ }
 {
     match plans::accept(plan) {
-        Admitted::Refused(refusal) => Count::Refused(refusal),
+        Admitted::Refused(refusal) => Amount::Refused(refusal),
         Admitted::Known(chip) => {
             let load = making::load_of(chip, plan);
             let body = making::bytes_of(chip, plan);

@@ -1,14 +1,14 @@
 // A script's pairs in a lent buffer.
 use crate::making::Load;
 use crate::making::Write;
-use refusal::Count;
+use refusal::Amount;
 use refusal::Refusal;
 ghost use Prim.Native.Nat.{_+_, _<_};
 ghost use mathlib.Core.Path.{_≡_};
 ghost use lib.ListN.{length, set};
-ghost use Rattle.scripts.specs.Making.{Short, Puts};
+ghost use Rattle.scripts.specs.Making.{Short, PutsPairs};
 
-// Puts a pair at a place of the buffer, and answers the place behind it.
+// PutsPairs a pair at a place of the buffer, and answers the place behind it.
 fn put(write: Write, out: &mut [u8], at: usize) -> usize
     requires { ⌜ write .register .position < 256 ⌝ }
     requires { ⌜ at + 1 < length (now out) ⌝ }
@@ -20,18 +20,18 @@ fn put(write: Write, out: &mut [u8], at: usize) -> usize
     at + 2
 }
 
-pub(crate) fn put_all(load: Load, body: &[u8], out: &mut [u8]) -> Count
+pub(crate) fn put_all(load: Load, body: &[u8], out: &mut [u8]) -> Amount
     requires { ⌜ Short load ⌝ }
     requires { ⌜ length (now body) ≡ 14 ⌝ }
-    ensures { λ r. ⌜ Puts load (now (body .entry)) (now (out .entry)) r (now (out .exit)) ⌝ }
+    ensures { λ r. ⌜ PutsPairs load (now (body .entry)) (now (out .entry)) r (now (out .exit)) ⌝ }
 {
     let writes = load.length();
     if out.len() < 2 * writes {
-        return Count::Refused(Refusal::OutputTooShort);
+        return Amount::Refused(Refusal::OutputTooShort);
     }
     let mut at = 0;
     for k in 0..writes {
         at = put(load.write(body, k), out, at);
     }
-    Count::Of(writes)
+    Amount::Of(writes)
 }

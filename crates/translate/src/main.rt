@@ -2,10 +2,10 @@
 use libc::STDERR_FILENO;
 use libc::STDIN_FILENO;
 use libc::STDOUT_FILENO;
-use refusal::Count;
+use refusal::Amount;
 ghost use Prim.Native.Nat.{_≤_};
 ghost use lib.ListN.{length};
-ghost use Rattle.refusal.specs.declared.Count.the-variants.{Of};
+ghost use Rattle.refusal.specs.declared.Amount.the-variants.{Of};
 ghost use Rattle.translation.specs.Contracts.{Translates};
 ghost use Rattle.translate.specs.Inputs.{Holds};
 
@@ -43,8 +43,8 @@ fn text_of(input: &[u8], buffer: &mut [u8]) -> usize
     ensures { λ r. ⌜ Translates (now (input .entry)) (now (buffer .entry)) (Of r) (now (buffer .exit)) ⌝ }
 {
     match translation::translate(input, buffer) {
-        Count::Of(length) => length,
-        Count::Refused(_) => 0,
+        Amount::Of(length) => length,
+        Amount::Refused(_) => 0,
     }
 }
 

@@ -24,13 +24,13 @@ use Rattle.records.proofs.RoundTrip.{whole-record}
 use Rattle.scripts.specs.Scripts.{scriptOf, scriptFor}
 use Rattle.scripts.proofs.Lengths.{script-of-shape}
 use Rattle.translation.specs.Text.{refusalIn, usedIn}
-use Rattle.translation.specs.Parts.{Accepts}
+use Rattle.translation.specs.Parts.{Printable}
 
 -- a record of `used` bytes and its plan. A header line takes at most 35 bytes, and each write 6: at most ten bytes of text for each of the record.
 pub record Accepted (bytes : List ℕ) (used : ℕ) (plan : Plan) : Type 0 where
   pub whole : used ≤ length bytes
   pub least : 13 ≤ used
-  pub accepts : Accepts plan
+  pub accepts : Printable plan
   pub chip : plan .chip < 10
   pub table : plan .table < 100
   pub short : 35 + 6 * length (scriptFor plan) ≤ 10 * used

@@ -8,21 +8,21 @@ use lib.ListN.{length, length-append}
 use lib.Seq.{take-all}
 use Rattle.refusal.specs.declared.Refusal.{Refusal}
 use Rattle.refusal.proofs.Numbers.{not-accepted}
-use Rattle.refusal.specs.declared.Count.{Count}
-use Rattle.refusal.specs.declared.Count.the-variants as counted
+use Rattle.refusal.specs.declared.Amount.{Amount}
+use Rattle.refusal.specs.declared.Amount.the-variants as amount
 use Rattle.curves.specs.declared.Plan.{Plan}
 use Rattle.scripts.specs.Scripts.{Pair, pairsIn, scriptFor}
 use Rattle.scripts.specs.Contracts.{Scripts}
 use Rattle.scripts.proofs.Buffers.{refused-by-plan, count, first-pairs}
 use Rattle.translation.specs.Text.{headerLine, writeLines, planText}
-use Rattle.translation.specs.Parts.{InRange, Adds, Accepts}
+use Rattle.translation.specs.Parts.{InRange, Adds, Printable}
 use Rattle.translation.proofs.Adding.{adds-then, adds-as}
 
-module _ {plan : Plan} {old bytes : List ℕ} {r : Count} (a : Accepts plan) (room : length old ≡ 48) (s : Scripts plan old r bytes) where
-  pub never-refused : (q : Refusal) → r ≡ counted.Refused q → ⊥
+module _ {plan : Plan} {old bytes : List ℕ} {r : Amount} (a : Printable plan) (room : length old ≡ 48) (s : Scripts plan old r bytes) where
+  pub never-refused : (q : Refusal) → r ≡ amount.Refused q → ⊥
   never-refused q e = not-accepted q (sym (refused-by-plan (λ _. a .writes) room s q e ∙ a .checks))
 
-  module _ (n : ℕ) (e : r ≡ counted.Of n) where
+  module _ (n : ℕ) (e : r ≡ amount.Of n) where
     pub writes : n ≡ length (scriptFor plan)
     writes = count (λ _. a .writes) room s n e
 

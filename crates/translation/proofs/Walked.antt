@@ -11,34 +11,34 @@ use lib.Seq.{drop-drop}
 use Rattle.refusal.specs.declared.Refusal.{Refusal}
 use Rattle.refusal.specs.Refusals.{numberOf}
 use Rattle.refusal.proofs.Numbers.{numberOf-positive}
-use Rattle.refusal.specs.declared.Count.the-variants as counted
-use Rattle.refusal.specs.Answers.{tellsCount}
+use Rattle.refusal.specs.declared.Amount.the-variants as amount
+use Rattle.refusal.specs.Answers.{tellsAmount}
 use Rattle.curves.specs.declared.Plan.{Plan}
 use Rattle.plans.proofs.Registers.{to-the-end}
 use Rattle.records.specs.declared.Found.{Found}
 use Rattle.records.specs.Records.{planIn, noPlan}
 use Rattle.records.specs.Contracts.{ReadsRecord}
 use Rattle.translation.specs.Text.{refusalIn, usedIn, planText, refusedLine, endLine}
-use Rattle.translation.specs.Parts.{InRange, Adds, Accepts}
+use Rattle.translation.specs.Parts.{InRange, Adds, Printable}
 use Rattle.translation.proofs.Adding.{adds-none, adds-then, adds-as}
 use Rattle.translation.proofs.Accepted.{Accepted, accepted}
 use Rattle.translation.proofs.Turns.{rest, rest-end, rest-refused, rest-plan}
 use Rattle.translation.proofs.Bound.{text-from-short}
 
 -- what the reader answers of the bytes left
-pub read-refused : {bytes : List ℕ} {found : Found} (q : Refusal) → ReadsRecord bytes found → found .answer ≡ counted.Refused q → numberOf q ≡ refusalIn bytes
+pub read-refused : {bytes : List ℕ} {found : Found} (q : Refusal) → ReadsRecord bytes found → found .answer ≡ amount.Refused q → numberOf q ≡ refusalIn bytes
 unfolding refusalIn
-read-refused q r e = ap (λ (t : ℕ × ℕ). t .0) (sym (ap tellsCount e) ∙ r .answer)
+read-refused q r e = ap (λ (t : ℕ × ℕ). t .0) (sym (ap tellsAmount e) ∙ r .answer)
 
-module _ {bytes : List ℕ} {found : Found} (n : ℕ) (r : ReadsRecord bytes found) (e : found .answer ≡ counted.Of n) where
+module _ {bytes : List ℕ} {found : Found} (n : ℕ) (r : ReadsRecord bytes found) (e : found .answer ≡ amount.Of n) where
   pub read-accepted : refusalIn bytes ≡ 0
   unfolding refusalIn
-  read-accepted = sym (ap (λ (t : ℕ × ℕ). t .0) (sym (ap tellsCount e) ∙ r .answer))
+  read-accepted = sym (ap (λ (t : ℕ × ℕ). t .0) (sym (ap tellsAmount e) ∙ r .answer))
 
   pub read-used : n ≡ usedIn bytes
   unfolding refusalIn usedIn
   read-used =
-      ap (λ (t : ℕ × ℕ). t .1) (sym (ap tellsCount e) ∙ r .answer)
+      ap (λ (t : ℕ × ℕ). t .1) (sym (ap tellsAmount e) ∙ r .answer)
       ∙ ap (λ (k : ℕ). cond (eqb k 0) (usedIn bytes) 0) read-accepted
 
   pub read-plan : found .plan ≡ planIn bytes
@@ -93,7 +93,7 @@ module _ {input old out : List ℕ} {at from plans : ℕ} (short : length input 
     some : 0 < length (drop from input)
     some = omega (arith, length-drop from input)
 
-    module _ (q : Refusal) {n : ℕ} (e : found .answer ≡ counted.Refused q) (number : n ≡ numberOf q) where
+    module _ (q : Refusal) {n : ℕ} (e : found .answer ≡ amount.Refused q) (number : n ≡ numberOf q) where
       refuses : rest plans (drop from input) ≡ refusedLine (plans + 1) n
       refuses =
           let same : n ≡ refusalIn (drop from input) = number ∙ read-refused q reads e in
@@ -106,7 +106,7 @@ module _ {input old out : List ℕ} {at from plans : ℕ} (short : length input 
       pub refused-added : {new : List ℕ} {r : ℕ} → Adds (refusedLine (plans + 1) n) out at r new → Adds (rest 0 input) old 0 r new
       refused-added a = last-added refuses a
 
-    module _ (n : ℕ) (e : found .answer ≡ counted.Of n) where
+    module _ (n : ℕ) (e : found .answer ≡ amount.Of n) where
       good : Accepted (drop from input) (usedIn (drop from input)) (planIn (drop from input))
       good = accepted (drop from input) (read-accepted n reads e)
 
@@ -117,8 +117,8 @@ module _ {input old out : List ℕ} {at from plans : ℕ} (short : length input 
           ∙ ap (λ (l : List ℕ). planText (plans + 1) (found .plan) ++ rest (plans + 1) l)
           (ap (λ (k : ℕ). drop k (drop from input)) (sym (read-used n reads e)) ∙ drop-drop n from input)
 
-      pub plan-accepts : Accepts (found .plan)
-      plan-accepts = subst Accepts (sym (read-plan n reads e)) (good .accepts)
+      pub plan-accepts : Printable (found .plan)
+      plan-accepts = subst Printable (sym (read-plan n reads e)) (good .accepts)
 
       pub plan-within : InRange at (planText (plans + 1) (found .plan))
       plan-within = room (planText (plans + 1) (found .plan)) (rest (plans + 1) (drop (from + n) input)) goes-on

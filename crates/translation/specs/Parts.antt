@@ -20,6 +20,6 @@ pub record Adds (text old : List ℕ) (at r : ℕ) (new : List ℕ) : Type 0 whe
   pub bytes : new ≡ sets old at text
 
 -- no check refuses the plan, and its script has at most 24 writes
-pub record Accepts (plan : Plan) : Type 0 where
+pub record Printable (plan : Plan) : Type 0 where
   pub checks : first (planChecks plan) ≡ 0
   pub writes : length (scriptFor plan) ≤ 24

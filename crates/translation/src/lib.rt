@@ -4,7 +4,7 @@ mod numbers;
 mod output;
 
 use curves::Plan;
-use refusal::Count;
+use refusal::Amount;
 use refusal::Refusal;
 ghost use Prim.Native.Nat.{_≤_};
 ghost use mathlib.Core.Path.{_≡_};
@@ -12,16 +12,16 @@ ghost use lib.Dec.{leb};
 ghost use lib.ListN.{length};
 ghost use Rattle.translation.specs.Text.{planText, textFrom, textOf};
 ghost use Rattle.translation.specs.Contracts.{Translates};
-ghost use Rattle.translation.specs.Parts.{InRange, Adds, Accepts};
+ghost use Rattle.translation.specs.Parts.{InRange, Adds, Printable};
 
 // An accepted plan's header and script. No script has more than 24 writes, so 48 bytes hold each, and none is refused.
 fn plan_lines(out: &mut [u8], at: usize, number: usize, plan: Plan) -> usize
-    requires { ⌜ Accepts plan ⌝ }
+    requires { ⌜ Printable plan ⌝ }
     requires { ⌜ InRange at (planText number plan) ⌝ }
     ensures { λ r. ⌜ Adds (planText number plan) (now (out .entry)) at r (now (out .exit)) ⌝ }
 {
     let mut pairs = [0u8; 48];
-    let Count::Of(writes) = scripts::script(plan, &mut pairs) else {
+    let Amount::Of(writes) = scripts::script(plan, &mut pairs) else {
         return at;
     };
     let next = lines::header(out, at, number, plan.chip, plan.table, writes);
@@ -41,13 +41,13 @@ fn record_lines(input: &[u8], out: &mut [u8]) -> usize
         let answer = found.answer;
         let plan = found.plan;
         match answer {
-            Count::Refused(refusal) => return lines::refused(
+            Amount::Refused(refusal) => return lines::refused(
                 out,
                 at,
                 plans + 1,
                 refusal::number(refusal),
             ),
-            Count::Of(used) => {
+            Amount::Of(used) => {
                 at = plan_lines(out, at, plans + 1, plan);
                 from += used;
                 plans += 1;
@@ -81,11 +81,11 @@ fn has_room(input: &[u8], room: usize) -> bool
 }
 
 // Writes the text of an input to the front of the buffer, and answers its length.
-pub fn translate(input: &[u8], out: &mut [u8]) -> Count
+pub fn translate(input: &[u8], out: &mut [u8]) -> Amount
     ensures { λ r. ⌜ Translates (now (input .entry)) (now (out .entry)) r (now (out .exit)) ⌝ }
 {
     if !has_room(input, out.len()) {
-        return Count::Refused(Refusal::OutputTooShort);
+        return Amount::Refused(Refusal::OutputTooShort);
     }
-    Count::Of(all_lines(input, out))
+    Amount::Of(all_lines(input, out))
 }

@@ -4,7 +4,7 @@
 use Prim.Native.Nat.{ℕ}
 use mathlib.Core.Path.{_≡_, subst}
 use mathlib.Core.List.{List}
-use Rattle.refusal.specs.declared.Count.{Count}
+use Rattle.refusal.specs.declared.Amount.{Amount}
 use Rattle.refusal.specs.declared.Outcome.{Outcome}
 use Rattle.identities.specs.Contracts.{Confirms}
 use Rattle.curves.specs.declared.Plan.{Plan}
@@ -18,7 +18,7 @@ use Rattle.plays.proofs.play.Statement.{statement}
 use Rattle.plays.proofs.play.Tie as tie
 
 -- both clauses of an answer, from the first
-safe : {plan : Plan} {old new : List ℕ} {count : ℕ} {r : Count} → Plays plan old count r new → Plays plan old count r new × Safely plan old count new
+safe : {plan : Plan} {old new : List ℕ} {count : ℕ} {r : Amount} → Plays plan old count r new → Plays plan old count r new × Safely plan old count new
 safe p = (p, plays-safely p)
 
 -- what identity answered, once the answer is known

@@ -20,7 +20,7 @@ use Rattle.cards.specs.Sheets.{room}
 use Rattle.bodies.proofs.Laws.{decoded-front}
 use Rattle.records.specs.Parts.{front}
 use Rattle.records.proofs.Encoding.{body-of-table, length-short, body-of-shape}
-use Rattle.records.proofs.Answers.{Whole, plan-refused, plan-accepted}
+use Rattle.records.proofs.Answers.{WholeBody, plan-refused, plan-accepted}
 use Rattle.records.proofs.plan_from.Statement.{statement}
 use Rattle.records.proofs.plan_from.Tie as tie
 
@@ -119,7 +119,7 @@ returns-4 c =
     let taken = c .before in
     let l = taken .before .before .before in
     let number = start (known l) .args .chip in
-    let whole : Whole number (table l) (bytes l) =
+    let whole : WholeBody number (table l) (bytes l) =
     record { chip = chip (known l); named = named (known l); has = found l .0; long = omega (arith, taken .before .if1 .left, long l) } in
     let shape = shapeOf (chip (known l)) (table l) in
     let used = room shape .0 + room shape .1 in

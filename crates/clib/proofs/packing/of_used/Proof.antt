@@ -3,11 +3,11 @@
 use Prim.Native.Nat.{ℕ}
 use borrow.Author.Tests.{ne-eqb}
 use Rattle.refusal.specs.declared.Refusal.{Refusal}
-use Rattle.refusal.specs.declared.Count.the-variants as counted
+use Rattle.refusal.specs.declared.Amount.the-variants as amount
 use Rattle.refusal.specs.Refusals.{numberOf}
 use Rattle.refusal.proofs.Numbers.{numberOf-positive}
-use Rattle.refusal.specs.declared.Count.{Count}
-use Rattle.refusal.specs.Answers.{tellsCount}
+use Rattle.refusal.specs.declared.Amount.{Amount}
+use Rattle.refusal.specs.Answers.{tellsAmount}
 use Rattle.clib.specs.Packed.{packed, packsUsed}
 use native.Mathlib.Omega.{arith}
 use mathlib.Core.Path.{_≡_, sym, ap, _∙_}
@@ -16,8 +16,8 @@ use Rattle.clib.proofs.packing.of_used.Statement.{statement}
 use Rattle.clib.proofs.packing.of_used.Tie as tie
 
 -- a refused record packs no value
-used-refused : {a : Count} {r : Refusal} (chip table : ℕ) → a ≡ counted.Refused r → packed (numberOf r) 0 ≡ packsUsed a chip table
-used-refused {a} {r} chip table e = rw (ap tellsCount e, ne-eqb (numberOf r) 0 (λ z. omega (arith, numberOf-positive r)))
+used-refused : {a : Amount} {r : Refusal} (chip table : ℕ) → a ≡ amount.Refused r → packed (numberOf r) 0 ≡ packsUsed a chip table
+used-refused {a} {r} chip table e = rw (ap tellsAmount e, ne-eqb (numberOf r) 0 (λ z. omega (arith, numberOf-positive r)))
 
 enum-known-used : tie.Need-enum-known-used
 enum-known-used c = search needs
@@ -26,16 +26,16 @@ mul-packed : tie.Need-mul-packed
 mul-packed c = search needs
 
 add-packed : tie.Need-add-packed
-add-packed c = omega (arith, sym (ap (λ (s : Count). tellsCount s .1) (c .before .used .given .1)), c .before .before .before .pre)
+add-packed c = omega (arith, sym (ap (λ (s : Amount). tellsAmount s .1) (c .before .used .given .1)), c .before .before .before .pre)
 
 mul-packed-2 : tie.Need-mul-packed-2
 mul-packed-2 c = search needs
 
 add-packed-2 : tie.Need-add-packed-2
-add-packed-2 c = omega (arith, sym (ap (λ (s : Count). tellsCount s .1) (c .before .used .given .1)), c .before .before .before .pre)
+add-packed-2 c = omega (arith, sym (ap (λ (s : Amount). tellsAmount s .1) (c .before .used .given .1)), c .before .before .before .pre)
 
 packed-requires : tie.Need-packed-requires
-packed-requires c κs = omega (arith, sym (ap (λ (s : Count). tellsCount s .1) (c .before .used .given .1)), c .before .before .before .pre)
+packed-requires c κs = omega (arith, sym (ap (λ (s : Amount). tellsAmount s .1) (c .before .used .given .1)), c .before .before .before .pre)
 
 enum-known-used-2 : tie.Need-enum-known-used-2
 enum-known-used-2 c = search needs
@@ -46,7 +46,7 @@ refused-requires c κs = search needs
 returns : tie.Need-returns
 returns c =
     let a = c .before .before .before .before .args in
-    c .packed .ensures ∙ sym (ap (λ (s : Count). packsUsed s (a .chip) (a .table)) (c .before .before .used .given .1))
+    c .packed .ensures ∙ sym (ap (λ (s : Amount). packsUsed s (a .chip) (a .table)) (c .before .before .used .given .1))
 
 returns-2 : tie.Need-returns-2
 returns-2 c =

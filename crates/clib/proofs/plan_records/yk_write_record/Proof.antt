@@ -1,7 +1,7 @@
 -- `plan_records::yk_write_record` meets its contract: it packs the refusal of the body, or what the library answers of the plan in it.
 -- Assumes nothing.
 use borrow.Author.Needs.{needs}
-use Rattle.refusal.specs.declared.Count.the-variants as counted
+use Rattle.refusal.specs.declared.Amount.the-variants as amount
 use Rattle.clib.proofs.Bodies.{Crossed, crossed, write-crossed, write-refused}
 use Rattle.clib.proofs.Within.{record-room}
 use Rattle.clib.proofs.plan_records.yk_write_record.Statement.{statement}
@@ -30,8 +30,8 @@ enum-told c = search needs
 write-requires : tie.Need-write-requires
 write-requires c κs = search needs
 
-of-count-requires : tie.Need-of-count-requires
-of-count-requires c κs = let w = c .before .before in record-room (taken (w .before .before .before) .sized) (w .write .ensures)
+of-amount-requires : tie.Need-of-amount-requires
+of-amount-requires c κs = let w = c .before .before in record-room (taken (w .before .before .before) .sized) (w .write .ensures)
 
 returns : tie.Need-returns
 returns c =
@@ -39,7 +39,7 @@ returns c =
     let a = f .before .before .before .args in
     let refusal = c .before .before .answer .given in
     record {
-      answer = counted.Refused (refusal .0 .0);
+      answer = amount.Refused (refusal .0 .0);
       kept = write-refused (a .chip) (a .table) (a .body .now) (refusal .0 .0) _ (f .plan-from .ensures) (refusal .1) _;
       same = c .refused .ensures;
     }
@@ -50,7 +50,7 @@ same-length c = search needs
 returns-2 : tie.Need-returns-2
 returns-2 c =
     let w = c .before .before .before in
-    record { answer = _; kept = write-crossed _ _ _ (taken (w .before .before .before)) (w .write .ensures); same = c .of-count .ensures }
+    record { answer = _; kept = write-crossed _ _ _ (taken (w .before .before .before)) (w .write .ensures); same = c .of-amount .ensures }
 
 pub yk-write-record-spec : {M : Type 1} → statement M
 yk-write-record-spec =
@@ -61,7 +61,7 @@ yk-write-record-spec =
     refused-requires
     enum-told
     write-requires
-    of-count-requires
+    of-amount-requires
     returns
     same-length
     returns-2)

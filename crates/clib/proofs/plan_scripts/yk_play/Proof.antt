@@ -2,7 +2,7 @@
 -- Assumes nothing.
 use native.Mathlib.Omega.{arith}
 use borrow.Author.Needs.{needs}
-use Rattle.refusal.specs.declared.Count.the-variants as counted
+use Rattle.refusal.specs.declared.Amount.the-variants as amount
 use Rattle.refusal.proofs.Numbers.{numberOf-positive}
 use Rattle.clib.proofs.Bodies.{body-refused, Crossed, crossed, play-crossed, play-refused}
 use Rattle.clib.proofs.Within.{play-room}
@@ -32,8 +32,8 @@ enum-told c = search needs
 play-requires : tie.Need-play-requires
 play-requires c κs = search needs
 
-of-count-requires : tie.Need-of-count-requires
-of-count-requires c κs = play-room (c .before .before .play .ensures .0)
+of-amount-requires : tie.Need-of-amount-requires
+of-amount-requires c κs = play-room (c .before .before .play .ensures .0)
 
 returns : tie.Need-returns
 returns c =
@@ -42,7 +42,7 @@ returns c =
     let refusal = c .before .before .answer .given in
     let cut = body-refused (a .chip) (a .table) (a .body .now) (refusal .0 .0) _ (f .plan-from .ensures) (refusal .1) in (
       record {
-        answer = counted.Refused (refusal .0 .0);
+        answer = amount.Refused (refusal .0 .0);
         kept = play-refused (a .chip) (a .table) (a .body .now) (refusal .0 .0) _ (f .plan-from .ensures) (refusal .1) _ _;
         same = c .refused .ensures;
       },
@@ -56,7 +56,7 @@ returns-2 : tie.Need-returns-2
 returns-2 c =
     let p = c .before .before .before in
     let C = taken (p .before .before .before) in (
-      record { answer = _; kept = play-crossed _ _ _ C (p .play .ensures .0); same = c .of-count .ensures },
+      record { answer = _; kept = play-crossed _ _ _ C (p .play .ensures .0); same = c .of-amount .ensures },
       λ whole. rw (C .same) at (p .play .ensures .1),
     )
 
@@ -69,7 +69,7 @@ yk-play-spec =
     refused-requires
     enum-told
     play-requires
-    of-count-requires
+    of-amount-requires
     returns
     same-length
     returns-2)

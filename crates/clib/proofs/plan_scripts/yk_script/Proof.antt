@@ -1,7 +1,7 @@
 -- `plan_scripts::yk_script` meets its contract: it packs the refusal of the body, or what the library answers of the plan in it.
 -- Assumes nothing.
 use borrow.Author.Needs.{needs}
-use Rattle.refusal.specs.declared.Count.the-variants as counted
+use Rattle.refusal.specs.declared.Amount.the-variants as amount
 use Rattle.clib.proofs.Bodies.{Crossed, crossed, script-crossed, script-refused}
 use Rattle.clib.proofs.Within.{script-room}
 use Rattle.clib.proofs.plan_scripts.yk_script.Statement.{statement}
@@ -30,8 +30,8 @@ enum-told c = search needs
 script-requires : tie.Need-script-requires
 script-requires c κs = search needs
 
-of-count-requires : tie.Need-of-count-requires
-of-count-requires c κs = script-room (c .before .before .script .ensures)
+of-amount-requires : tie.Need-of-amount-requires
+of-amount-requires c κs = script-room (c .before .before .script .ensures)
 
 returns : tie.Need-returns
 returns c =
@@ -39,7 +39,7 @@ returns c =
     let a = f .before .before .before .args in
     let refusal = c .before .before .answer .given in
     record {
-      answer = counted.Refused (refusal .0 .0);
+      answer = amount.Refused (refusal .0 .0);
       kept = script-refused (a .chip) (a .table) (a .body .now) (refusal .0 .0) _ (f .plan-from .ensures) (refusal .1) _;
       same = c .refused .ensures;
     }
@@ -50,7 +50,7 @@ same-length c = search needs
 returns-2 : tie.Need-returns-2
 returns-2 c =
     let s = c .before .before .before in
-    record { answer = _; kept = script-crossed _ _ _ (taken (s .before .before .before)) (s .script .ensures); same = c .of-count .ensures }
+    record { answer = _; kept = script-crossed _ _ _ (taken (s .before .before .before)) (s .script .ensures); same = c .of-amount .ensures }
 
 pub yk-script-spec : {M : Type 1} → statement M
 yk-script-spec =
@@ -61,7 +61,7 @@ yk-script-spec =
     refused-requires
     enum-told
     script-requires
-    of-count-requires
+    of-amount-requires
     returns
     same-length
     returns-2)

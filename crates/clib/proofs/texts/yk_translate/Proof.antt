@@ -8,14 +8,14 @@ use Rattle.clib.proofs.texts.yk_translate.Tie as tie
 translate-requires : tie.Need-translate-requires
 translate-requires c κs = search needs
 
-of-count-requires : tie.Need-of-count-requires
-of-count-requires c κs = text-room (c .before .before .translate .ensures)
+of-amount-requires : tie.Need-of-amount-requires
+of-amount-requires c κs = text-room (c .before .before .translate .ensures)
 
 same-length : tie.Need-same-length
 same-length c = search needs
 
 returns : tie.Need-returns
-returns c = record { answer = _; kept = c .before .before .before .translate .ensures; same = c .of-count .ensures }
+returns c = record { answer = _; kept = c .before .before .before .translate .ensures; same = c .of-amount .ensures }
 
 pub yk-translate-spec : {M : Type 1} → statement M
-yk-translate-spec = tie.close (tie.spec translate-requires of-count-requires same-length returns)
+yk-translate-spec = tie.close (tie.spec translate-requires of-amount-requires same-length returns)
