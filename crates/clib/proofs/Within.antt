@@ -5,13 +5,12 @@ use native.Mathlib.Nat.{min-le-right}
 use native.Mathlib.Omega.{arith}
 use mathlib.Core.Path.{_≡_, ap}
 use mathlib.Core.Bool.{Bool, true, false, cond}
-use mathlib.Core.List.{List, [], _∷_, _++_}
+use mathlib.Core.List.{List, []}
 use lib.Dec.{eqb}
 use lib.ListN.{length}
 use Rattle.refusal.specs.declared.Amount.{Amount}
 use Rattle.refusal.specs.Answers.{tellsAmount}
 use Rattle.refusal.specs.Checks.{Check, first, told, roomChecks}
-use Rattle.cards.specs.declared.types.Chip.{Chip}
 use Rattle.cards.specs.declared.types.Named.{Named}
 use Rattle.cards.specs.declared.types.Named.the-variants.{Known, Unknown}
 use Rattle.cards.specs.Cards.{chipOf, whenKnown}

@@ -74,11 +74,11 @@ pub(crate) fn of_steps(steps: Steps) -> u64
     }
 }
 
-pub(crate) fn of_amount(count: Amount) -> u64
-    requires { ⌜ tellsAmount count .1 < 2 ^ 56 ⌝ }
-    ensures { λ r. ⌜ r ≡ packsAmount count ⌝ }
+pub(crate) fn of_amount(amount: Amount) -> u64
+    requires { ⌜ tellsAmount amount .1 < 2 ^ 56 ⌝ }
+    ensures { λ r. ⌜ r ≡ packsAmount amount ⌝ }
 {
-    match count {
+    match amount {
         Amount::Of(n) => packed(0, n as u64),
         Amount::Refused(refusal) => refused(refusal),
     }

@@ -89,6 +89,7 @@ fn steps_body(bytes: &[u8]) -> [u8; LONGEST]
     ]
 }
 
+// The body of a shape.
 fn body_in(shape: Shape, bytes: &[u8]) -> [u8; LONGEST]
     requires { ⌜ room shape .0 + room shape .1 ≤ length (now bytes) ⌝ }
     ensures { λ r. ⌜ r ≡ column 14 (front (room shape .0 + room shape .1) (now (bytes .entry))) ⌝ }

@@ -8,7 +8,7 @@ ghost use mathlib.Core.Path.{_≡_};
 ghost use lib.ListN.{length, set};
 ghost use Rattle.scripts.specs.Making.{Short, PutsPairs};
 
-// PutsPairs a pair at a place of the buffer, and answers the place behind it.
+// Puts a pair at a place of the buffer, and answers the place behind it.
 fn put(write: Write, out: &mut [u8], at: usize) -> usize
     requires { ⌜ write .register .position < 256 ⌝ }
     requires { ⌜ at + 1 < length (now out) ⌝ }

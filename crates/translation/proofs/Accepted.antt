@@ -2,7 +2,7 @@
 -- Assumes nothing.
 use Prim.Native.Nat.{ℕ, _+_, _*_, _≤_, _<_}
 use native.Mathlib.Omega.{arith}
-use mathlib.Core.Path.{_≡_, sym, ap, subst, _∙_}
+use mathlib.Core.Path.{_≡_, ap, subst, _∙_}
 use mathlib.Core.List.{List, []}
 use lib.ListN.{length, length-drop}
 use Rattle.refusal.specs.Checks.{first}
@@ -14,7 +14,6 @@ use Rattle.cards.specs.Cards.{chipOf, whenKnown, shapeOf}
 use Rattle.cards.proofs.Numbers.{chip-number, chip-digit}
 use Rattle.cards.proofs.Tables.{table-digits}
 use Rattle.curves.specs.declared.Plan.{Plan}
-use Rattle.bodies.specs.Bodies.{decoded}
 use Rattle.bodies.proofs.Laws.{decoded-chip, decoded-table, decoded-sized}
 use Rattle.plans.specs.Contracts.{planChecks}
 use Rattle.records.specs.Records.{recordLength, chipNumberIn, tableNumberIn, bodyIn, planIn}

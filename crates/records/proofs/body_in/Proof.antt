@@ -1,6 +1,6 @@
 -- `body_in` meets its contract: each arm takes as many bytes as its shape has.
 -- Assumes nothing.
-use Prim.Native.Nat.{ℕ, _+_, _≤_}
+use Prim.Native.Nat.{_+_, _≤_}
 use mathlib.Core.Path.{subst}
 use lib.ListN.{length}
 use Rattle.cards.specs.declared.types.Shape.{Shape}

@@ -11,24 +11,6 @@ use borrow.Author.Needs.{needs}
 use Rattle.clib.proofs.packing.of_steps.Statement.{statement}
 use Rattle.clib.proofs.packing.of_steps.Tie as tie
 
-enum-known-steps : tie.Need-enum-known-steps
-enum-known-steps c = search needs
-
-as-word-requires : tie.Need-as-word-requires
-as-word-requires c κs = search needs
-
-cast-packed : tie.Need-cast-packed
-cast-packed c = search needs
-
-packed-requires : tie.Need-packed-requires
-packed-requires c κs = search needs
-
-enum-known-steps-2 : tie.Need-enum-known-steps-2
-enum-known-steps-2 c = search needs
-
-refused-requires : tie.Need-refused-requires
-refused-requires c κs = search needs
-
 returns : tie.Need-returns
 returns c =
     let number : SFits w16 (c .before .before .before .steps .given .0 .0) = record { sfits = c .before .before .known-told .given .0 .1 } in
@@ -36,17 +18,17 @@ returns c =
     ∙ sym (ap (λ (s : Steps). packsSteps s) (c .before .before .before .steps .given .1))
 
 returns-2 : tie.Need-returns-2
-returns-2 c = c .refused .ensures ∙ sym (ap (λ (s : Steps). packsSteps s) (c .before .before .steps2 .given .1))
+returns-2 c = rw (c .before .before .steps2 .given .1) (c .refused .ensures)
 
 pub of-steps-spec : {M : Type 1} → statement M
 of-steps-spec =
     tie.close
     (tie.spec
-    enum-known-steps
-    as-word-requires
-    cast-packed
-    packed-requires
-    enum-known-steps-2
-    refused-requires
+    (λ c. search needs)
+    (λ c κs. search needs)
+    (λ c. search needs)
+    (λ c κs. search needs)
+    (λ c. search needs)
+    (λ c κs. search needs)
     returns
     returns-2)

@@ -19,29 +19,14 @@ use Rattle.clib.proofs.packing.of_used.Tie as tie
 used-refused : {a : Amount} {r : Refusal} (chip table : ℕ) → a ≡ amount.Refused r → packed (numberOf r) 0 ≡ packsUsed a chip table
 used-refused {a} {r} chip table e = rw (ap tellsAmount e, ne-eqb (numberOf r) 0 (λ z. omega (arith, numberOf-positive r)))
 
-enum-known-used : tie.Need-enum-known-used
-enum-known-used c = search needs
-
-mul-packed : tie.Need-mul-packed
-mul-packed c = search needs
-
 add-packed : tie.Need-add-packed
 add-packed c = omega (arith, sym (ap (λ (s : Amount). tellsAmount s .1) (c .before .used .given .1)), c .before .before .before .pre)
-
-mul-packed-2 : tie.Need-mul-packed-2
-mul-packed-2 c = search needs
 
 add-packed-2 : tie.Need-add-packed-2
 add-packed-2 c = omega (arith, sym (ap (λ (s : Amount). tellsAmount s .1) (c .before .used .given .1)), c .before .before .before .pre)
 
 packed-requires : tie.Need-packed-requires
 packed-requires c κs = omega (arith, sym (ap (λ (s : Amount). tellsAmount s .1) (c .before .used .given .1)), c .before .before .before .pre)
-
-enum-known-used-2 : tie.Need-enum-known-used-2
-enum-known-used-2 c = search needs
-
-refused-requires : tie.Need-refused-requires
-refused-requires c κs = search needs
 
 returns : tie.Need-returns
 returns c =
@@ -57,13 +42,13 @@ pub of-used-spec : {M : Type 1} → statement M
 of-used-spec =
     tie.close
     (tie.spec
-    enum-known-used
-    mul-packed
+    (λ c. search needs)
+    (λ c. search needs)
     add-packed
-    mul-packed-2
+    (λ c. search needs)
     add-packed-2
     packed-requires
-    enum-known-used-2
-    refused-requires
+    (λ c. search needs)
+    (λ c κs. search needs)
     returns
     returns-2)

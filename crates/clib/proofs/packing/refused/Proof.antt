@@ -7,14 +7,8 @@ use Rattle.clib.specs.Packed.{packed}
 use Rattle.clib.proofs.packing.refused.Statement.{statement}
 use Rattle.clib.proofs.packing.refused.Tie as tie
 
-number-requires : tie.Need-number-requires
-number-requires c κs = search needs
-
-packed-requires : tie.Need-packed-requires
-packed-requires c κs = search needs
-
 returns : tie.Need-returns
 returns c = c .packed .ensures ∙ ap (λ (n : ℕ). packed n 0) (c .before .number .ensures .answer)
 
 pub refused-spec : {M : Type 1} → statement M
-refused-spec = tie.close (tie.spec number-requires packed-requires returns)
+refused-spec = tie.close (tie.spec (λ c κs. search needs) (λ c κs. search needs) returns)

@@ -2,14 +2,12 @@
 -- Assumes nothing.
 use Prim.Native.Nat.{ℕ, _+_, _-_, _≤_}
 use native.Mathlib.Omega.{arith}
-use mathlib.Core.Path.{_≡_, ap, ap₂, _∙_}
-use mathlib.Core.Bool.{Bool, false}
+use mathlib.Core.Path.{_≡_, ap₂, _∙_}
 use mathlib.Core.List.{List}
 use Rattle.cards.specs.Sheets.{registerIn}
 use Rattle.cards.specs.Cards.{sheetOf}
 use Rattle.curves.specs.Planned.{planned}
 use Rattle.bodies.specs.Bodies.{body}
-use Rattle.plans.specs.declared.tables.Fitting.{Fitting}
 use Rattle.plans.specs.Parts.{fitFrom}
 use Rattle.plans.proofs.Fits.{fit-column}
 use borrow.Author.Needs.{needs}
