@@ -7,7 +7,7 @@ use Rattle.cards.specs.declared.types.Chip.{Chip}
 use Rattle.cards.specs.Rows.{Table}
 use Rattle.cards.specs.Cards.{chipOf, whenKnown, tableOf, shapeOf}
 use Rattle.curves.specs.declared.Plan.{Plan}
-use Rattle.curves.specs.Curves.{points}
+use Rattle.curves.specs.Curves.{paired}
 use Rattle.curves.specs.Orders.{fulls}
 use Rattle.curves.specs.Planned.{Curve, fullOf}
 use Rattle.plans.specs.Plans.{plannedFor}
@@ -18,7 +18,7 @@ Pair = ℕ × ℕ
 
 -- a byte to each of some registers
 abbrev pub writes : List ℕ → List ℕ → List Pair
-writes registers bytes = points registers bytes
+writes registers bytes = paired registers bytes
 
 -- "FL1 to FL4 to FFh, then T1 to T4, critical, then FL1 to FL4 as planned"; "each high and low byte of C1 to C5 to 00h in address order,
 -- then B1 to B4, then C1 to C5, high byte first": raise every speed, move every setting, settle every speed
