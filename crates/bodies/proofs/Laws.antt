@@ -3,6 +3,7 @@
 use Prim.Native.Nat.{ℕ, zero, suc, _+_, _≤_, _<_}
 use native.Mathlib.Omega.{arith}
 use mathlib.Core.Path.{_≡_, refl, sym, ap, ap₂, _∙_}
+use mathlib.Core.Bool.{Bool, true, false}
 use mathlib.Core.List.{List, [], _∷_, _++_}
 use lib.ListN.{length, getD, take, length-append}
 use lib.Seq.{length-take-le, getD-take, ext-getD}
@@ -20,28 +21,40 @@ use Rattle.curves.specs.Values.{noSlope, noSteps, Sized}
 use Rattle.curves.proofs.StepLaws.{halves-length, words-halves, halves-words}
 use Rattle.curves.proofs.Registers.{spelled, in-a-row}
 use Rattle.curves.proofs.Filled.{planned-sized}
-use Rattle.bodies.specs.Bodies.{body, slopeIn, stepsIn, decoded, ownOf}
+use Rattle.bodies.specs.Bodies.{body, bodyOf, slopeIn, stepsIn, decoded, ownOf}
 
-pub decoded-chip : (shape : Shape) (chip table : ℕ) (bytes : List ℕ) → decoded shape chip table bytes .chip ≡ chip
-decoded-chip (Slope full) chip table bytes = refl
-decoded-chip Steps chip table bytes = refl
+pub decoded-chip : (leading : Bool) (shape : Shape) (chip table : ℕ) (bytes : List ℕ) → decoded leading shape chip table bytes .chip ≡ chip
+decoded-chip leading (Slope full) chip table bytes = refl
+decoded-chip leading Steps chip table bytes = refl
 
-pub decoded-table : (shape : Shape) (chip table : ℕ) (bytes : List ℕ) → decoded shape chip table bytes .table ≡ table
-decoded-table (Slope full) chip table bytes = refl
-decoded-table Steps chip table bytes = refl
+pub decoded-table : (leading : Bool) (shape : Shape) (chip table : ℕ) (bytes : List ℕ) → decoded leading shape chip table bytes .table ≡ table
+decoded-table leading (Slope full) chip table bytes = refl
+decoded-table leading Steps chip table bytes = refl
 
 -- however short the body is
-pub decoded-sized : (shape : Shape) (chip table : ℕ) (bytes : List ℕ) → Sized (decoded shape chip table bytes)
+pub decoded-sized : (leading : Bool) (shape : Shape) (chip table : ℕ) (bytes : List ℕ) → Sized (decoded leading shape chip table bytes)
 unfolding words
-decoded-sized (Slope full) chip table bytes = record { temperatures = refl; duties = refl; bounds = refl; counts = refl }
-decoded-sized Steps chip table bytes = record { temperatures = refl; duties = refl; bounds = refl; counts = refl }
+decoded-sized true (Slope full) chip table bytes = record { temperatures = refl; duties = refl; bounds = refl; counts = refl }
+decoded-sized false (Slope full) chip table bytes = record { temperatures = refl; duties = refl; bounds = refl; counts = refl }
+decoded-sized leading Steps chip table bytes = record { temperatures = refl; duties = refl; bounds = refl; counts = refl }
+
+-- steps have no critical that could lead
+pub steps-body : (leading : Bool) (plan : Plan) → bodyOf leading Steps plan ≡ body (planned Steps plan)
+steps-body true plan = refl
+steps-body false plan = refl
 
 -- "9 bytes for chip 1, 14 for chip 2"
-pub body-length : (shape : Shape) (plan : Plan) → Sized plan → length (body (planned shape plan)) ≡ room shape .0 + room shape .1
-body-length shape plan sized =
+table-length : (shape : Shape) (plan : Plan) → Sized plan → length (body (planned shape plan)) ≡ room shape .0 + room shape .1
+table-length shape plan sized =
     let curve = planned shape plan in
     let filled = planned-sized shape plan sized in
     length-append (curve .settings) (curve .speeds) ∙ ap₂ (λ (m n : ℕ). m + n) (filled .0) (filled .1)
+
+pub body-length : (leading : Bool) (shape : Shape) (plan : Plan) → Sized plan → length (bodyOf leading shape plan) ≡ room shape .0 + room shape .1
+body-length true (Slope full) plan sized =
+    omega (arith, length-append (plan .slope .temperatures) (plan .slope .duties), sized .temperatures, sized .duties)
+body-length true Steps plan sized = table-length Steps plan sized
+body-length false shape plan sized = table-length shape plan sized
 
 -- values that are laid out stand in front of their column
 pub column-begins : (values : List ℕ) (n : ℕ) → length values ≤ n → take (length values) (column n (λ k. getD values k 0)) ≡ values
@@ -55,9 +68,18 @@ column-begins values n h =
 
 -- values that are laid out come back, whatever stands behind them
 pub slope-back : (values : SlopeValues) (rest : List ℕ) → length (values .temperatures) ≡ 4 → length (values .duties) ≡ 4
-    → slopeIn (((values .temperatures ++ (values .critical ∷ [])) ++ values .duties) ++ rest) ≡ values
+    → slopeIn false (((values .temperatures ++ (values .critical ∷ [])) ++ values .duties) ++ rest) ≡ values
 slope-back values rest t d =
-    let undone : List ℕ → List ℕ → SlopeValues = λ ts ds. slopeIn (((ts ++ (values .critical ∷ [])) ++ ds) ++ rest) in
+    let undone : List ℕ → List ℕ → SlopeValues = λ ts ds. slopeIn false (((ts ++ (values .critical ∷ [])) ++ ds) ++ rest) in
+    let of : List ℕ → List ℕ → SlopeValues = λ ts ds. record { temperatures = ts; critical = values .critical; duties = ds } in
+    let ts = spelled (values .temperatures) 4 t in
+    let ds = spelled (values .duties) 4 d in
+    sym (ap₂ undone ts ds) ∙ ap₂ of ts ds
+
+pub leading-back : (values : SlopeValues) (rest : List ℕ) → length (values .temperatures) ≡ 4 → length (values .duties) ≡ 4
+    → slopeIn true ((values .critical ∷ (values .temperatures ++ values .duties)) ++ rest) ≡ values
+leading-back values rest t d =
+    let undone : List ℕ → List ℕ → SlopeValues = λ ts ds. slopeIn true ((values .critical ∷ (ts ++ ds)) ++ rest) in
     let of : List ℕ → List ℕ → SlopeValues = λ ts ds. record { temperatures = ts; critical = values .critical; duties = ds } in
     let ts = spelled (values .temperatures) 4 t in
     let ds = spelled (values .duties) 4 d in
@@ -72,25 +94,39 @@ steps-back values rest b c =
     let hs = spelled (halves (values .counts)) 10 (omega (arith, halves-length (values .counts), c)) in
     sym (ap₂ undone bs hs) ∙ ap₂ (λ (l h : List ℕ). of l (words h)) bs hs ∙ ap (of (values .bounds)) (words-halves (values .counts))
 
--- a plan's body is decoded to the plan
-pub body-back : (shape : Shape) (plan : Plan) (rest : List ℕ) → Sized plan
-    → decoded shape (plan .chip) (plan .table) (body (planned shape plan) ++ rest) ≡ ownOf shape plan
-body-back (Slope full) plan rest sized =
-    let values = slope-back (plan .slope) rest (sized .temperatures) (sized .duties) in
-    λ i. record { chip = plan .chip; table = plan .table; slope = values i; steps = noSteps }
-body-back Steps plan rest sized =
+steps-body-back : (plan : Plan) (rest : List ℕ) → Sized plan
+    → decoded false Steps (plan .chip) (plan .table) (body (planned Steps plan) ++ rest) ≡ ownOf Steps plan
+steps-body-back plan rest sized =
     let values = steps-back (plan .steps) rest (sized .bounds) (sized .counts) in
     λ i. record { chip = plan .chip; table = plan .table; slope = noSlope; steps = values i }
 
+-- a plan's body is decoded to the plan
+pub body-back : (leading : Bool) (shape : Shape) (plan : Plan) (rest : List ℕ) → Sized plan
+    → decoded leading shape (plan .chip) (plan .table) (bodyOf leading shape plan ++ rest) ≡ ownOf shape plan
+body-back true (Slope full) plan rest sized =
+    let values = leading-back (plan .slope) rest (sized .temperatures) (sized .duties) in
+    λ i. record { chip = plan .chip; table = plan .table; slope = values i; steps = noSteps }
+body-back false (Slope full) plan rest sized =
+    let values = slope-back (plan .slope) rest (sized .temperatures) (sized .duties) in
+    λ i. record { chip = plan .chip; table = plan .table; slope = values i; steps = noSteps }
+body-back true Steps plan rest sized = steps-body-back plan rest sized
+body-back false Steps plan rest sized = steps-body-back plan rest sized
+
 -- a whole body is the body of the plan in it, whatever stands behind it
-pub encode-decode : (shape : Shape) (chip table : ℕ) (bytes : List ℕ) → room shape .0 + room shape .1 ≤ length bytes
-    → ((k : ℕ) → getD bytes k 0 < 256)
-    → body (planned shape (decoded shape chip table bytes)) ≡ take (room shape .0 + room shape .1) bytes
-encode-decode (Slope full) chip table bytes h byte = in-a-row bytes 0 9 h
-encode-decode Steps chip table bytes h byte =
+steps-encode : (chip table : ℕ) (bytes : List ℕ) → 14 ≤ length bytes → ((k : ℕ) → getD bytes k 0 < 256)
+    → body (planned Steps (decoded false Steps chip table bytes)) ≡ take 14 bytes
+steps-encode chip table bytes h byte =
     ap (λ (l : List ℕ). valuesAt bytes (from 0 4) ++ l)
     (halves-words (valuesAt bytes (from 4 10)) (byte 5, (byte 7, (byte 9, (byte 11, (byte 13, tt))))))
     ∙ in-a-row bytes 0 14 h
+
+pub encode-decode : (leading : Bool) (shape : Shape) (chip table : ℕ) (bytes : List ℕ) → room shape .0 + room shape .1 ≤ length bytes
+    → ((k : ℕ) → getD bytes k 0 < 256)
+    → bodyOf leading shape (decoded leading shape chip table bytes) ≡ take (room shape .0 + room shape .1) bytes
+encode-decode true (Slope full) chip table bytes h byte = in-a-row bytes 0 9 h
+encode-decode false (Slope full) chip table bytes h byte = in-a-row bytes 0 9 h
+encode-decode true Steps chip table bytes h byte = steps-encode chip table bytes h byte
+encode-decode false Steps chip table bytes h byte = steps-encode chip table bytes h byte
 
 -- what comes back of a plan names its chip and its table, has its curve and is in order as it is
 pub own-chip : (shape : Shape) (plan : Plan) → ownOf shape plan .chip ≡ plan .chip
@@ -122,19 +158,24 @@ module _ (bytes : List ℕ) (f : ℕ → ℕ) where
       ap₂ (λ (b : ℕ) (l : List ℕ). b ∷ l) (column-at 14 f first (omega arith) ∙ e first (omega arith))
       (in-front (suc first) n (omega arith) (λ k l. e k (omega arith)))
 
-  pub decoded-front : (shape : Shape) (chip table : ℕ) → ((k : ℕ) → k < room shape .0 + room shape .1 → f k ≡ getD bytes k 0)
-      → decoded shape chip table (column 14 f) ≡ decoded shape chip table bytes
-  decoded-front (Slope full) chip table e =
+  slope-front : (leading : Bool) → ((k : ℕ) → k < 9 → f k ≡ getD bytes k 0) → slopeIn leading (column 14 f) ≡ slopeIn leading bytes
+  slope-front true e =
+      let temperatures = in-front 1 4 (omega arith) (λ k l. e k (omega arith)) in
+      let critical = column-at 14 f 0 (omega arith) ∙ e 0 (omega arith) in
+      let duties = in-front 5 4 (omega arith) (λ k l. e k (omega arith)) in
+      λ i. record { temperatures = temperatures i; critical = critical i; duties = duties i }
+  slope-front false e =
       let temperatures = in-front 0 4 (omega arith) (λ k l. e k (omega arith)) in
       let critical = column-at 14 f 4 (omega arith) ∙ e 4 (omega arith) in
       let duties = in-front 5 4 (omega arith) (λ k l. e k (omega arith)) in
-      λ i. record {
-        chip = chip;
-        table = table;
-        slope = record { temperatures = temperatures i; critical = critical i; duties = duties i };
-        steps = noSteps;
-      }
-  decoded-front Steps chip table e =
+      λ i. record { temperatures = temperatures i; critical = critical i; duties = duties i }
+
+  pub decoded-front : (leading : Bool) (shape : Shape) (chip table : ℕ) → ((k : ℕ) → k < room shape .0 + room shape .1 → f k ≡ getD bytes k 0)
+      → decoded leading shape chip table (column 14 f) ≡ decoded leading shape chip table bytes
+  decoded-front leading (Slope full) chip table e =
+      let values = slope-front leading (λ k l. e k (omega arith)) in
+      λ i. record { chip = chip; table = table; slope = values i; steps = noSteps }
+  decoded-front leading Steps chip table e =
       let bounds = in-front 0 4 (omega arith) (λ k l. e k (omega arith)) in
       let counts = in-front 4 10 (omega arith) (λ k l. e k (omega arith)) in
       λ i. record { chip = chip; table = table; slope = noSlope; steps = record { bounds = bounds i; counts = words (counts i) } }

@@ -2,18 +2,18 @@
 -- Assumes nothing.
 use Prim.Native.Nat.{ℕ}
 use mathlib.Core.Path.{_≡_}
+use mathlib.Core.Bool.{Bool}
 use mathlib.Core.List.{List}
 use lib.ListN.{getD}
 use Rattle.cards.specs.declared.types.Shape.{Shape}
 use Rattle.cards.specs.Rows.{column}
 use Rattle.curves.specs.declared.Plan.{Plan}
-use Rattle.curves.specs.Planned.{planned}
-use Rattle.bodies.specs.Bodies.{body, decoded}
+use Rattle.bodies.specs.Bodies.{bodyOf, decoded}
 
 -- what `bodies::plan_of` promises
-pub record Decodes (shape : Shape) (chip table : ℕ) (bytes : List ℕ) (plan : Plan) : Type 0 where
-  pub answer : plan ≡ decoded shape chip table bytes
+pub record Decodes (leading : Bool) (shape : Shape) (chip table : ℕ) (bytes : List ℕ) (plan : Plan) : Type 0 where
+  pub answer : plan ≡ decoded leading shape chip table bytes
 
 -- what `bodies::body_of` promises: the bytes of a plan's body, "9 bytes for chip 1, 14 for chip 2", and zeros behind them
-pub record EncodesBody (shape : Shape) (plan : Plan) (bytes : List ℕ) : Type 0 where
-  pub answer : bytes ≡ column 14 (λ k. getD (body (planned shape plan)) k 0)
+pub record EncodesBody (leading : Bool) (shape : Shape) (plan : Plan) (bytes : List ℕ) : Type 0 where
+  pub answer : bytes ≡ column 14 (λ k. getD (bodyOf leading shape plan) k 0)

@@ -36,10 +36,17 @@ fn counts_in(body: [u8; LONGEST]) -> [u16; 5]
     ]
 }
 
-// T1 to T4, critical, FL1 to FL4.
-pub(crate) fn slope_in(body: [u8; LONGEST]) -> SlopeValues
-    ensures { λ r. ⌜ r ≡ slopeIn body ⌝ }
+// T1 to T4, critical, FL1 to FL4; or critical first.
+pub(crate) fn slope_in(leading: bool, body: [u8; LONGEST]) -> SlopeValues
+    ensures { λ r. ⌜ r ≡ slopeIn leading body ⌝ }
 {
+    if leading {
+        return SlopeValues {
+            temperatures: four_at(body, 1),
+            critical: body[0],
+            duties: four_at(body, 5),
+        };
+    }
     SlopeValues {
         temperatures: four_at(body, 0),
         critical: body[4],

@@ -11,15 +11,15 @@ ghost use Rattle.bodies.specs.Contracts.{Decodes, EncodesBody};
 // No body has more bytes.
 pub const LONGEST: usize = 14;
 
-// The plan whose curve stands in a body's bytes.
-pub fn plan_of(shape: Shape, chip: u8, table: u8, body: [u8; LONGEST]) -> Plan
-    ensures { λ r. ⌜ Decodes shape chip table body r ⌝ }
+// The plan whose curve stands in a body's bytes, by whether critical leads there.
+pub fn plan_of(shape: Shape, leading: bool, chip: u8, table: u8, body: [u8; LONGEST]) -> Plan
+    ensures { λ r. ⌜ Decodes leading shape chip table body r ⌝ }
 {
     match shape {
         Shape::Slope(_) => Plan {
             chip,
             table,
-            slope: decoding::slope_in(body),
+            slope: decoding::slope_in(leading, body),
             steps: NO_STEPS,
         },
         Shape::Steps => Plan {
@@ -31,15 +31,18 @@ pub fn plan_of(shape: Shape, chip: u8, table: u8, body: [u8; LONGEST]) -> Plan
     }
 }
 
-// The bytes of a plan's body, and zeros behind them.
-pub fn body_of(shape: Shape, plan: Plan) -> [u8; LONGEST]
-    ensures { λ r. ⌜ EncodesBody shape plan r ⌝ }
+// The bytes of a plan's body, by whether critical leads there, and zeros behind them.
+pub fn body_of(shape: Shape, leading: bool, plan: Plan) -> [u8; LONGEST]
+    ensures { λ r. ⌜ EncodesBody leading shape plan r ⌝ }
 {
     match shape {
         Shape::Slope(_) => {
             let values = plan.slope;
             let temperatures = values.temperatures;
             let duties = values.duties;
+            if leading {
+                return encoding::leading_bytes(temperatures, values.critical, duties);
+            }
             encoding::slope_bytes(temperatures, values.critical, duties)
         }
         Shape::Steps => {

@@ -6,6 +6,7 @@ use mathlib.Core.Bool.{Bool, true, false, So, cond}
 use mathlib.Core.List.{List, [], _∷_}
 use borrow.Author.Tests.{eqb-true}
 use lib.Dec.{eqb}
+use Rattle.cards.specs.Banks.{among}
 use Rattle.cards.specs.Rows.{every, Line, Row, row, rowIn}
 use Rattle.cards.proofs.Every.{both}
 
@@ -22,11 +23,6 @@ carried P test none each (l ∷ ls) t address =
         → P address (cond here (row (l .1) (l .2) (l .3)) (rowIn ls address))
     by-address true e p q = subst (λ (a : ℕ). P a (row (l .1) (l .2) (l .3))) (eqb-true (l .0) address e) p
     by-address false e p q = q
-
--- whether an address is one of some
-abbrev pub among : List ℕ → ℕ → Bool
-among [] address = false
-among (a ∷ rest) address = cond (eqb address a) true (among rest address)
 
 -- a line elsewhere than at some addresses has no bit that clears on one
 abbrev pub unclearing : List ℕ → Line → Bool

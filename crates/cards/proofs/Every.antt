@@ -4,7 +4,7 @@ use Prim.Native.Nat.{ℕ, zero, suc, _<_}
 use native.Mathlib.Nat.{le-of-suc-le-suc, not-suc-le-zero}
 use mathlib.Core.Path.{_≡_, refl, sym, ap}
 use mathlib.Core.Bool.{Bool, true, So, not, _&&_, and-eq-true-iff}
-use mathlib.Core.List.{List, [], _∷_, map}
+use mathlib.Core.List.{List, [], _∷_, _++_, map}
 use borrow.Author.Tests.{eqb-false, not-true}
 use lib.Dec.{eqb}
 use lib.ListN.{length, getD}
@@ -18,6 +18,14 @@ of-every test [] other t k h = absurd (not-suc-le-zero h)
 of-every test (a ∷ l) other t zero h = both (test a) (every test l) t .0
 of-every test (a ∷ l) other t (suc k) h =
     of-every test l other (both (test a) (every test l) t .1) k (le-of-suc-le-suc h)
+
+-- a test of two lists in a row is one of each
+pub every-append : {A : Type 0} (test : A → Bool) (xs ys : List A) → So (every test (xs ++ ys)) → So (every test xs) × So (every test ys)
+every-append test [] ys t = (refl, t)
+every-append test (x ∷ xs) ys t =
+    let parts = both (test x) (every test (xs ++ ys)) t in
+    let rest = every-append test xs ys (parts .1) in
+    (rw (parts .0, rest .0), rest .1)
 
 -- and to what stands in behind the last entry, where that passes too
 pub everywhere : {A : Type 0} (test : A → Bool) (l : List A) (other : A) → So (test other) → So (every test l) → (k : ℕ) → So (test (getD l k other))

@@ -10,3 +10,4 @@ pub mod Tables
 pub mod Numbers
 pub mod Told
 pub mod Unique
+pub mod Selectors

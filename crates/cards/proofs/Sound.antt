@@ -1,21 +1,23 @@
 -- What every page must pass, as one test that is computed over it, what this says fact by fact, and that each chip's page passes.
 -- Assumes nothing.
-use Prim.Native.Nat.{ℕ, suc, _^_, _≤_, _<_}
+use Prim.Native.Nat.{ℕ, suc, _+_, _-_, _*_, _/_, _%_, _^_, _≤_, _<_}
 use native.Mathlib.Omega.{arith}
 use mathlib.Core.Path.{refl}
-use mathlib.Core.Bool.{Bool, true, false, So, not, _&&_}
-use mathlib.Core.List.{List, [], _∷_}
+use mathlib.Core.Bool.{Bool, true, false, So, cond, not, _&&_}
+use mathlib.Core.List.{List, [], _∷_, _++_}
 use borrow.Author.Tests.{leb-true, ltb-true}
 use lib.Bits.{bitAnd}
 use lib.Dec.{eqb, leb, ltb}
-use lib.ListN.{length, getD}
+use lib.ListN.{length, getD, take}
 use Rattle.cards.specs.declared.types.Chip.{Chip}
 use Rattle.cards.specs.declared.types.Chip.the-variants.{Nct7802y, F75373s, Nct80}
+use Rattle.cards.specs.declared.types.Layout.{Layout}
 use Rattle.cards.specs.declared.types.Required.{Required}
 use Rattle.cards.specs.declared.types.Shape.{Shape}
 use Rattle.cards.specs.declared.types.Shape.the-variants.{Slope, Steps}
+use Rattle.cards.specs.Banks.{Banks, sharedIn, standsIn, asideIn, noBank, selectsFrom}
 use Rattle.cards.specs.Rows.{every, Line, Row, Table, positions, rowIn, column}
-use Rattle.cards.specs.Sheets.{greatest, Sheet, powerOnIn, tableIn, room, wholeIn}
+use Rattle.cards.specs.Sheets.{greatest, Sheet, powerOnIn, tableIn, room, wholeIn, loaded, layout}
 use Rattle.cards.specs.Cards.{sheetOf}
 use Rattle.cards.specs.Identity.{allHold}
 use Rattle.cards.specs.Nct7802y as nct7802y
@@ -44,13 +46,29 @@ fixed row bits = ltb bits (2 ^ 8) && (eqb (bitAnd (row .writable) bits) 0 && eqb
 abbrev pub lasting : Sheet → Required → Bool
 lasting sheet r = ltb (r .position) (sheet .size) && fixed (rowIn (sheet .card) (r .position)) (r .bits)
 
--- the positions that the bus reaches
-abbrev pub reached : ℕ → Bool
-reached position = ltb position (2 ^ 8)
+-- a position is that of its address in its bank: a register seen in every bank has no second one
+abbrev pub seenAt : Banks → ℕ → Bool
+seenAt banks position = eqb (standsIn banks (position / 256) (position % 256)) position
 
--- a fan table's register is inside the image, where the bus reaches it
+-- the positions that the bus reaches: there, and by a bank that the bank's bits can say
+abbrev pub reached : Banks → ℕ → Bool
+reached banks position = seenAt banks position && eqb (bitAnd (position / 256) (banks .bits)) (position / 256)
+
+-- a position is none of some
+abbrev pub noneOf : List ℕ → ℕ → Bool
+noneOf others position = every (λ q. not (eqb q position)) others
+
+-- a fan table's register is inside the image, where the bus reaches it, and selects no bank
 abbrev pub stands : Sheet → ℕ → Bool
-stands sheet position = ltb position (sheet .size) && reached position
+stands sheet position = ltb position (sheet .size) && (reached (sheet .banks) position && noneOf (asideIn (sheet .banks)) position)
+
+-- the bank select register is inside the image, at an address that is seen in every bank, and takes every bit that says the bank
+abbrev pub selecting : Sheet → ℕ → Bool
+selecting sheet position =
+    ltb position (sheet .size)
+    && (ltb position (2 ^ 8)
+    && (sharedIn (sheet .banks) position
+    && eqb (bitAnd (rowIn (sheet .card) position .writable) (sheet .banks .bits)) (sheet .banks .bits)))
 
 -- what a speed's register takes: of a slope the full duty, and nothing above it
 abbrev pub reaches : Shape → ℕ → Bool
@@ -82,11 +100,32 @@ both-or-neither true other = other
 both-or-neither false other = not other
 
 -- a table is laid out as another
-abbrev pub alike : List Line → Table → Table → Bool
-alike card other table =
+abbrev pub alike : Sheet → Table → Table → Bool
+alike sheet other table =
     ofShape (table .shape) (other .shape)
     && (eqb (length (table .settings)) (length (other .settings))
-    && (eqb (length (table .speeds)) (length (other .speeds)) && both-or-neither (wholeIn card table) (wholeIn card other)))
+    && (eqb (length (table .speeds)) (length (other .speeds))
+    && (both-or-neither (wholeIn (sheet .card) table) (wholeIn (sheet .card) other)
+    && (eqb (selectsFrom (sheet .banks) noBank (loaded table)) (selectsFrom (sheet .banks) noBank (loaded other))
+    && both-or-neither (table .leading) (other .leading)))))
+
+-- the registers of a table as its record has them: "in register order"
+abbrev pub recorded : Table → List ℕ
+recorded table =
+    cond (table .leading) (getD (table .settings) (length (table .settings) - 1) 0 ∷ (take (length (table .settings) - 1) (table .settings) ++ table .speeds))
+    (positions table)
+
+-- each stands behind the one before
+abbrev pub behind : ℕ → List ℕ → Bool
+behind least [] = true
+behind least (p ∷ ps) = leb least p && behind (suc p) ps
+
+-- what a text has room for: the lines of a plan, a header of at most 35 bytes and 6 for each write, are no more than ten for each byte of its record,
+-- whose header has 4; and no script has more than 24 writes
+abbrev pub brief : Layout → Bool
+brief l =
+    leb (35 + 6 * (l .selects + (l .speeds + (l .settings + l .speeds)))) (10 * (4 + (l .settings + l .speeds)))
+    && leb (l .selects + (l .speeds + (l .settings + l .speeds))) 24
 
 abbrev tests : Sheet → List Bool
 tests sheet =
@@ -98,9 +137,14 @@ tests sheet =
     ∷ allHold (powerOnIn sheet) (sheet .identity)
     ∷ every (separate sheet) (sheet .tables)
     ∷ every sized (sheet .tables)
-    ∷ every (alike (sheet .card) (tableIn (sheet .tables) 1)) (sheet .tables)
+    ∷ every (alike sheet (tableIn (sheet .tables) 1)) (sheet .tables)
     ∷ ltb (sheet .number) 10
     ∷ ltb (length (sheet .tables)) 100
+    ∷ every (λ l. seenAt (sheet .banks) (l .0)) (sheet .card)
+    ∷ every (selecting sheet) (asideIn (sheet .banks))
+    ∷ ltb (sheet .banks .bits) (2 ^ 8)
+    ∷ every (λ table. brief (layout (sheet .banks) (sheet .card) table)) (sheet .tables)
+    ∷ every (λ table. behind 0 (recorded table)) (sheet .tables)
     ∷ []
 
 unfoldable pub sound : Sheet → Bool
@@ -118,13 +162,20 @@ pub record Sound (sheet : Sheet) : Type 0 where
   pub tables : So (every (separate sheet) (sheet .tables))
   pub sizes : So (every sized (sheet .tables))
   -- what each chip's module counts on, which has one layout for its tables
-  pub rows : So (every (alike (sheet .card) (tableIn (sheet .tables) 1)) (sheet .tables))
+  pub rows : So (every (alike sheet (tableIn (sheet .tables) 1)) (sheet .tables))
   -- what a line of a text has room for: one digit of the chip's number, and two of the table's
   pub number : sheet .number < 10
   pub numbers : length (sheet .tables) < 100
+  -- no line stands where no access lands
+  pub places : So (every (λ l. seenAt (sheet .banks) (l .0)) (sheet .card))
+  pub selects : So (every (selecting sheet) (asideIn (sheet .banks)))
+  pub bits : sheet .banks .bits < 2 ^ 8
+  pub texts : So (every (λ table. brief (layout (sheet .banks) (sheet .card) table)) (sheet .tables))
+  -- a record is in register order
+  pub records : So (every (λ table. behind 0 (recorded table)) (sheet .tables))
 
 module _ (sheet : Sheet) (t : So (sound sheet)) where
-  part : (k : ℕ) → k < 11 → So (getD (tests sheet) k true)
+  part : (k : ℕ) → k < 16 → So (getD (tests sheet) k true)
   unfolding sound
   part k h = of-every (λ test. test) (tests sheet) true t k h
 
@@ -142,6 +193,11 @@ module _ (sheet : Sheet) (t : So (sound sheet)) where
         rows = part 8 (omega arith);
         number = ltb-true (sheet .number) 10 (part 9 (omega arith));
         numbers = ltb-true (length (sheet .tables)) 100 (part 10 (omega arith));
+        places = part 11 (omega arith);
+        selects = part 12 (omega arith);
+        bits = ltb-true (sheet .banks .bits) (2 ^ 8) (part 13 (omega arith));
+        texts = part 14 (omega arith);
+        records = part 15 (omega arith);
       }
 
 -- the only law that goes by the chip

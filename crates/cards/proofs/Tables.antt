@@ -1,13 +1,13 @@
 -- The registers of a fan table are distinct positions that the bus reaches, and a speed's takes the full duty: of any page that passes its test,
 -- carried to each register; and what the answers of `table_of` and `register_of` tell of them.
 -- Assumes nothing.
-use Prim.Native.Nat.{ℕ, zero, suc, _^_, _≤_, _<_}
+use Prim.Native.Nat.{ℕ, zero, suc, _+_, _*_, _/_, _^_, _≤_, _<_}
 use native.Mathlib.Nat.{mod-eq-of-lt}
 use native.Mathlib.Omega.{arith}
 use mathlib.Core.Path.{_≡_, refl, sym, ap, subst, _∙_}
 use mathlib.Core.Bool.{Bool, true, false, So, cond, true≢false, _&&_}
 use mathlib.Core.List.{List, [], _∷_, map}
-use borrow.Author.Tests.{leb-false, eqb-true, ltb-true, leb-true, le-leb}
+use borrow.Author.Tests.{leb-false, eqb-true, ltb-true, ltb-false, leb-true, le-leb}
 use lib.Bits.{bitAnd, and-mask}
 use lib.Dec.{eqb, leb, ltb}
 use lib.ListN.{length, getD, List·getD-eq-default}
@@ -17,12 +17,13 @@ use Rattle.cards.specs.declared.types.Shape.the-variants.{Slope, Steps}
 use Rattle.cards.specs.declared.types.Layout.{Layout}
 use Rattle.cards.specs.declared.types.Fan.{Fan}
 use Rattle.cards.specs.declared.types.Fan.the-variants.{Laid, Nothing}
+use Rattle.cards.specs.Banks.{noBank, selectsFrom}
 use Rattle.cards.specs.Rows.{every, Line, Table, positions, rowIn, registerAt, noRegister}
-use Rattle.cards.specs.Sheets.{Sheet, missing, room, hasTableIn, tableIn, wholeIn, layout, laidIn, registerIn}
-use Rattle.cards.specs.Cards.{sheetOf, cardOf, sizeOf, rowOf, tablesOf, hasTable, tableOf, shapeOf}
+use Rattle.cards.specs.Sheets.{Sheet, missing, room, hasTableIn, tableIn, wholeIn, loaded, layout, laidIn, registerIn}
+use Rattle.cards.specs.Cards.{sheetOf, cardOf, banksOf, sizeOf, rowOf, tablesOf, hasTable, tableOf, shapeOf, layoutOf}
 use Rattle.cards.specs.Contracts.{Lays}
 use Rattle.cards.proofs.Every.{both, of-every, everywhere, map-at, distinct, apart}
-use Rattle.cards.proofs.Sound.{reached, stands, reaches, reachesAt, separate, sized, ofShape, both-or-neither, alike, Sound, sound-sheet}
+use Rattle.cards.proofs.Sound.{stands, reaches, reachesAt, separate, sized, ofShape, both-or-neither, alike, brief, Sound, sound-sheet}
 
 -- tables have the numbers from 1 on
 numbered : (tables : List Table) (number : ℕ) → So (hasTableIn tables number) → (1 ≤ number) × (number ≤ length tables)
@@ -74,16 +75,21 @@ one-answer false true t = absurd (true≢false (sym t))
 one-answer false false t = refl
 
 -- a table that is like another is laid out as it
-laid-alike : (card : List Line) (other table : Table) → So (alike card other table) → layout card table ≡ layout card other
-laid-alike card other table t =
+laid-alike : (sheet : Sheet) (other table : Table) → So (alike sheet other table)
+    → layout (sheet .banks) (sheet .card) table ≡ layout (sheet .banks) (sheet .card) other
+laid-alike sheet other table t =
     let shape = both (ofShape (table .shape) (other .shape)) _ t in
     let settings = both (eqb (length (table .settings)) (length (other .settings))) _ (shape .1) in
     let speeds = both (eqb (length (table .speeds)) (length (other .speeds))) _ (settings .1) in
+    let whole = both (both-or-neither (wholeIn (sheet .card) table) (wholeIn (sheet .card) other)) _ (speeds .1) in
+    let selects = both (eqb (selectsFrom (sheet .banks) noBank (loaded table)) (selectsFrom (sheet .banks) noBank (loaded other))) _ (whole .1) in
     (λ i. record {
       settings = eqb-true (length (table .settings)) (length (other .settings)) (settings .0) i;
       speeds = eqb-true (length (table .speeds)) (length (other .speeds)) (speeds .0) i;
       shape = one-shape (table .shape) (other .shape) (shape .0) i;
-      whole = one-answer (wholeIn card table) (wholeIn card other) (speeds .1) i;
+      whole = one-answer (wholeIn (sheet .card) table) (wholeIn (sheet .card) other) (whole .0) i;
+      selects = eqb-true (selectsFrom (sheet .banks) noBank (loaded table)) (selectsFrom (sheet .banks) noBank (loaded other)) (selects .0) i;
+      leading = one-answer (table .leading) (other .leading) (selects .1) i;
     })
 
 -- of any page that passes, and any number: a table that is missing has no register to speak of
@@ -110,21 +116,10 @@ module _ (sheet : Sheet) (S : Sound sheet) (number : ℕ) where
   sheet-reaches : (k : ℕ) → k < length (table .speeds) → So (reaches (table .shape) (rowIn (sheet .card) (getD (table .speeds) k 0) .writable))
   sheet-reaches = of-every (reachesAt sheet (table .shape)) (table .speeds) 0 (both (leb (length (positions table)) 14) _ (beside .1) .1)
 
-  sheet-stands : (k : ℕ) → k < length (positions table) → (getD (positions table) k 0 < sheet .size) × So (reached (getD (positions table) k 0))
-  sheet-stands k h =
+  sheet-inside : (k : ℕ) → k < length (positions table) → getD (positions table) k 0 < sheet .size
+  sheet-inside k h =
       let position = getD (positions table) k 0 in
-      let parts = both (ltb position (sheet .size)) _ (of-every (stands sheet) (positions table) 0 all-stand k h) in
-      (ltb-true position (sheet .size) (parts .0), parts .1)
-
-  -- what stands in behind the last is reached as well
-  sheet-reached : (k : ℕ) → So (reached (getD (positions table) k 0))
-  sheet-reached = everywhere reached (positions table) 0 refl (only (positions table) all-stand)
-    where
-      only : (ps : List ℕ) → So (every (stands sheet) ps) → So (every reached ps)
-      only [] t = refl
-      only (p ∷ ps) t =
-          let parts = both (stands sheet p) _ t in
-          rw (both (ltb p (sheet .size)) (reached p) (parts .0) .1, only ps (parts .1))
+      ltb-true position (sheet .size) (both (ltb position (sheet .size)) _ (of-every (stands sheet) (positions table) 0 all-stand k h) .0)
 
 -- of a table that it has
 module _ (sheet : Sheet) (S : Sound sheet) (number : ℕ) (has : So (hasTableIn (sheet .tables) number)) where
@@ -135,10 +130,13 @@ module _ (sheet : Sheet) (S : Sound sheet) (number : ℕ) (has : So (hasTableIn 
       by-number zero h = absurd (omega (arith, h .0))
       by-number (suc n) h = of-every test (sheet .tables) missing t n (h .1)
 
-  sheet-laid : layout (sheet .card) (tableIn (sheet .tables) number) ≡ layout (sheet .card) (tableIn (sheet .tables) 1)
+  sheet-laid : layout (sheet .banks) (sheet .card) (tableIn (sheet .tables) number) ≡ layout (sheet .banks) (sheet .card) (tableIn (sheet .tables) 1)
   sheet-laid =
-      laid-alike (sheet .card) (tableIn (sheet .tables) 1) (tableIn (sheet .tables) number)
-      (of-tables (alike (sheet .card) (tableIn (sheet .tables) 1)) (S .rows))
+      laid-alike sheet (tableIn (sheet .tables) 1) (tableIn (sheet .tables) number)
+      (of-tables (alike sheet (tableIn (sheet .tables) 1)) (S .rows))
+
+  sheet-brief : So (brief (layout (sheet .banks) (sheet .card) (tableIn (sheet .tables) number)))
+  sheet-brief = of-tables (λ table. brief (layout (sheet .banks) (sheet .card) table)) (S .texts)
 
   sheet-sized : (length (tableIn (sheet .tables) number .settings) ≡ room (tableIn (sheet .tables) number .shape) .0)
       × (length (tableIn (sheet .tables) number .speeds) ≡ room (tableIn (sheet .tables) number .shape) .1)
@@ -154,12 +152,9 @@ module _ (chip : Chip) (number : ℕ) where
   pub table-short : length (positions (tableOf chip number)) ≤ 14
   table-short = sheet-short (sheetOf chip) (sound-sheet chip) number
 
-  -- each is inside the image, where the bus reaches it
+  -- each is inside the image
   pub table-within : (k : ℕ) → k < length (positions (tableOf chip number)) → getD (positions (tableOf chip number)) k 0 < sizeOf chip
-  table-within k h = sheet-stands (sheetOf chip) (sound-sheet chip) number k h .0
-
-  pub table-reached : (k : ℕ) → getD (positions (tableOf chip number)) k 0 < 2 ^ 8
-  table-reached k = ltb-true (getD (positions (tableOf chip number)) k 0) (2 ^ 8) (sheet-reached (sheetOf chip) (sound-sheet chip) number k)
+  table-within k h = sheet-inside (sheetOf chip) (sound-sheet chip) number k h
 
   -- no two registers of a table share a position
   pub table-distinct : (j k : ℕ) → j < length (positions (tableOf chip number)) → k < length (positions (tableOf chip number))
@@ -181,11 +176,22 @@ module _ (chip : Chip) (number : ℕ) where
   pub register-position : (k : ℕ) → registerIn (sheetOf chip) number k .position ≡ getD (positions (tableOf chip number)) k 0
   register-position k = position-among (cardOf chip) (positions (tableOf chip number)) k
 
-  pub register-byte : (k : ℕ) → registerIn (sheetOf chip) number k .position < 256
-  register-byte k = subst (λ (p : ℕ). p < 256) (sym (register-position k)) (table-reached k)
+  -- so its bank's number is a byte
+  pub register-bank : (k : ℕ) → registerIn (sheetOf chip) number k .position / 256 < 2 ^ 8
+  register-bank k = by-place (ltb k (length (positions (tableOf chip number)))) refl
+    where
+      by-place : (there : Bool) → ltb k (length (positions (tableOf chip number))) ≡ there → registerIn (sheetOf chip) number k .position / 256 < 2 ^ 8
+      by-place true e =
+          omega (arith, register-position k, table-within k (ltb-true k (length (positions (tableOf chip number))) e), sound-sheet chip .size)
+      by-place false e =
+          omega (arith, register-position k, List·getD-eq-default (positions (tableOf chip number)) 0 (ltb-false k (length (positions (tableOf chip number))) e))
+
+  -- all of them stand where the bus reaches them
+  pub table-stands : So (every (stands (sheetOf chip)) (positions (tableOf chip number)))
+  table-stands = all-stand (sheetOf chip) (sound-sheet chip) number
 
   -- where every register takes every bit
-  pub whole-mask : layout (cardOf chip) (tableOf chip number) .whole ≡ true → (k : ℕ) → k < length (positions (tableOf chip number))
+  pub whole-mask : layoutOf chip number .whole ≡ true → (k : ℕ) → k < length (positions (tableOf chip number))
       → rowOf chip (getD (positions (tableOf chip number)) k 0) .writable ≡ 0xFF
   unfolding rowOf
   whole-mask t k h =
@@ -212,22 +218,33 @@ module _ (chip : Chip) (number : ℕ) (has : So (hasTable chip number)) where
       × (length (tableOf chip number .speeds) ≡ room (shapeOf chip number) .1)
   table-sized = sheet-sized (sheetOf chip) (sound-sheet chip) number has
 
+  -- its script is short, and so is its text
+  pub table-brief : (35 + 6 * (layoutOf chip number .selects + (layoutOf chip number .speeds + (layoutOf chip number .settings + layoutOf chip number .speeds)))
+      ≤ 10 * (4 + (layoutOf chip number .settings + layoutOf chip number .speeds)))
+      × (layoutOf chip number .selects + (layoutOf chip number .speeds + (layoutOf chip number .settings + layoutOf chip number .speeds)) ≤ 24)
+  table-brief =
+      let l = layoutOf chip number in
+      let writes = l .selects + (l .speeds + (l .settings + l .speeds)) in
+      let bytes = 10 * (4 + (l .settings + l .speeds)) in
+      let parts = both (leb (35 + 6 * writes) bytes) (leb writes 24) (sheet-brief (sheetOf chip) (sound-sheet chip) number has) in
+      (leb-true (35 + 6 * writes) bytes (parts .0), leb-true writes 24 (parts .1))
+
   -- a chip's tables are laid out alike
-  pub table-laid : layout (cardOf chip) (tableOf chip number) ≡ layout (cardOf chip) (tableOf chip 1)
+  pub table-laid : layoutOf chip number ≡ layoutOf chip 1
   table-laid = sheet-laid (sheetOf chip) (sound-sheet chip) number has
 
 -- what the first table's layout says of every number that the chip has
 pub laid-first : (chip : Chip) (number : ℕ) → 1 ≤ number → number ≤ length (tablesOf chip)
-    → Laid (layout (cardOf chip) (tableOf chip 1)) ≡ laidIn (sheetOf chip) number
+    → Laid (layoutOf chip 1) ≡ laidIn (sheetOf chip) number
 laid-first chip number h l =
     let has : So (hasTable chip number) = rw (le-leb 1 number h, le-leb number (length (tablesOf chip)) l) in
     ap Laid (sym (table-laid chip number has))
-    ∙ ap (λ (b : Bool). cond b (Laid (layout (cardOf chip) (tableOf chip number))) Nothing) (sym has)
+    ∙ ap (λ (b : Bool). cond b (Laid (layoutOf chip number)) Nothing) (sym has)
 
 -- and what no table says
 pub none-laid : (chip : Chip) (number : ℕ) → (1 ≤ number → number ≤ length (tablesOf chip) → ⊥) → Nothing ≡ laidIn (sheetOf chip) number
 none-laid chip number h =
-    ap (λ (has : Bool). cond has (Laid (layout (cardOf chip) (tableOf chip number))) Nothing) (sym (no-number number (length (tablesOf chip)) h))
+    ap (λ (has : Bool). cond has (Laid (layoutOf chip number)) Nothing) (sym (no-number number (length (tablesOf chip)) h))
 
 -- what an answer tells of the table
 fan-laid : (has : Bool) (a b : Layout) → cond has (Laid a) Nothing ≡ Laid b → (has ≡ true) × (b ≡ a)
@@ -239,8 +256,8 @@ no-fan true a e = let z : _≡_ {A = ℕ} 0 1 = cc in absurd (omega arith)
 no-fan false a e = refl
 
 pub table-found : {chip : Chip} {number : ℕ} {fan : Fan} (facts : Layout) → Lays chip number fan → fan ≡ Laid facts
-    → (hasTable chip number ≡ true) × (facts ≡ layout (cardOf chip) (tableOf chip number))
-table-found {chip} {number} facts p e = fan-laid (hasTable chip number) (layout (cardOf chip) (tableOf chip number)) facts (sym (p .answer) ∙ e)
+    → (hasTable chip number ≡ true) × (facts ≡ layoutOf chip number)
+table-found {chip} {number} facts p e = fan-laid (hasTable chip number) (layoutOf chip number) facts (sym (p .answer) ∙ e)
 
 pub table-missed : {chip : Chip} {number : ℕ} {fan : Fan} → Lays chip number fan → fan ≡ Nothing → hasTable chip number ≡ false
-table-missed {chip} {number} p e = no-fan (hasTable chip number) (layout (cardOf chip) (tableOf chip number)) (sym (p .answer) ∙ e)
+table-missed {chip} {number} p e = no-fan (hasTable chip number) (layoutOf chip number) (sym (p .answer) ∙ e)

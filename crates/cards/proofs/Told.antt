@@ -10,8 +10,9 @@ use Rattle.cards.specs.declared.types.Named.the-variants.{Known, Unknown
 use Rattle.cards.specs.declared.types.Fan.{Fan}
 use Rattle.cards.specs.declared.types.Fan.the-variants.{Laid, Nothing}
 use Rattle.cards.specs.declared.types.Layout.{Layout}
+use Rattle.cards.specs.Banks.{oneBank}
 use Rattle.cards.specs.Sheets.{missing, layout}
-use Rattle.cards.specs.Cards.{cardOf, chipOf, whenKnown, unknown, hasTable, tableOf, tellsNamed, tellsFan}
+use Rattle.cards.specs.Cards.{chipOf, whenKnown, unknown, hasTable, layoutOf, tellsNamed, tellsFan}
 use Rattle.cards.specs.Contracts.{Names, Lays}
 use Rattle.cards.proofs.Numbers.{chip-number}
 
@@ -25,9 +26,9 @@ names-told {number} p = ap tellsNamed (p .answer) ∙ by-name (chipOf number) re
 
 -- 0 and the layout of the table where the chip has it, else 4 and that of none
 pub lays-told : {chip : Chip} {number : ℕ} {r : Fan} → Lays chip number r
-    → tellsFan r ≡ cond (hasTable chip number) (0, layout (cardOf chip) (tableOf chip number)) (4, layout [] missing)
-lays-told {chip} {number} p = ap tellsFan (p .answer) ∙ by-table (hasTable chip number) (layout (cardOf chip) (tableOf chip number))
+    → tellsFan r ≡ cond (hasTable chip number) (0, layoutOf chip number) (4, layout oneBank [] missing)
+lays-told {chip} {number} p = ap tellsFan (p .answer) ∙ by-table (hasTable chip number) (layoutOf chip number)
   where
-    by-table : (has : Bool) (facts : Layout) → tellsFan (cond has (Laid facts) Nothing) ≡ cond has (0, facts) (4, layout [] missing)
+    by-table : (has : Bool) (facts : Layout) → tellsFan (cond has (Laid facts) Nothing) ≡ cond has (0, facts) (4, layout oneBank [] missing)
     by-table true facts = refl
     by-table false facts = refl

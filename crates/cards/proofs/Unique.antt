@@ -9,8 +9,9 @@ use Rattle.cards.specs.declared.types.Layout.{Layout}
 use Rattle.cards.specs.declared.types.Masks.{Masks}
 use Rattle.cards.specs.declared.types.Register.{Register}
 use Rattle.cards.specs.declared.types.Required.{Required}
+use Rattle.cards.specs.declared.types.Selector.{Selector}
 use Rattle.cards.specs.declared.types.Sizes.{Sizes}
-use Rattle.cards.specs.Contracts.{Names, Finds, PowersOn, TellsSizes, Requires, Lays, LaysOut, Stands}
+use Rattle.cards.specs.Contracts.{Names, Finds, PowersOn, TellsSizes, Requires, Lays, LaysOut, Stands, Selects, Positions}
 
 pub names-unique : {number : ℕ} {r s : Named} → Names number r → Names number s → r ≡ s
 names-unique p q = p .answer ∙ sym (q .answer)
@@ -35,3 +36,9 @@ lays-out-unique p q = p .answer ∙ sym (q .answer)
 
 pub stands-unique : {chip : Chip} {number k : ℕ} {r s : Register} → Stands chip number k r → Stands chip number k s → r ≡ s
 stands-unique p q = p .answer ∙ sym (q .answer)
+
+pub selects-unique : {chip : Chip} {r s : Selector} → Selects chip r → Selects chip s → r ≡ s
+selects-unique p q = p .answer ∙ sym (q .answer)
+
+pub positions-unique : {chip : Chip} {bank address r s : ℕ} → Positions chip bank address r → Positions chip bank address s → r ≡ s
+positions-unique p q = p .answer ∙ sym (q .answer)

@@ -14,6 +14,7 @@ use Rattle.cards.specs.declared.types.Shape.{Shape}
 use Rattle.cards.specs.declared.types.Fan.{Fan}
 use Rattle.cards.specs.declared.types.Fan.the-variants.{Laid, Nothing}
 use Rattle.cards.specs.declared.types.Layout.{Layout}
+use Rattle.cards.specs.Banks.{Banks, oneBank}
 use Rattle.cards.specs.Rows.{Line, Row, Table, rowIn}
 use Rattle.cards.specs.Sheets.{Sheet, powerOnIn, missing, hasTableIn, tableIn, layout}
 use Rattle.cards.specs.Nct7802y as nct7802y
@@ -57,6 +58,9 @@ unknown number = whenKnown (chipOf number) (λ chip. false) true
 abbrev pub cardOf : Chip → List Line
 cardOf chip = sheetOf chip .card
 
+abbrev pub banksOf : Chip → Banks
+banksOf chip = sheetOf chip .banks
+
 unfoldable pub rowOf : Chip → ℕ → Row
 rowOf chip position = rowIn (cardOf chip) position
 
@@ -85,7 +89,7 @@ abbrev pub shapeOf : Chip → ℕ → Shape
 shapeOf chip number = tableOf chip number .shape
 
 abbrev pub layoutOf : Chip → ℕ → Layout
-layoutOf chip number = layout (cardOf chip) (tableOf chip number)
+layoutOf chip number = layout (banksOf chip) (cardOf chip) (tableOf chip number)
 
 -- refusal 4: "the chip has no such fan table"
 abbrev pub noTable : ℕ → ℕ → Bool
@@ -94,7 +98,7 @@ noTable chip number = not (whenKnown (chipOf chip) (λ c. hasTable c number) fal
 -- the same of a fan table: 0 and its layout, or 4 and that of none
 abbrev pub tellsFan : Fan → ℕ × Layout
 tellsFan (Laid facts) = (0, facts)
-tellsFan Nothing = (4, layout [] missing)
+tellsFan Nothing = (4, layout oneBank [] missing)
 
 -- how many bytes a chip's image has
 abbrev pub sizeOf : Chip → ℕ

@@ -7,12 +7,14 @@ use Rattle.cards.specs.declared.types.Named.{Named}
 use Rattle.cards.specs.declared.types.Masks.{Masks}
 use Rattle.cards.specs.declared.types.Register.{Register}
 use Rattle.cards.specs.declared.types.Required.{Required}
+use Rattle.cards.specs.declared.types.Selector.{Selector}
 use Rattle.cards.specs.declared.types.Sizes.{Sizes}
 use Rattle.cards.specs.declared.types.Fan.{Fan}
 use Rattle.cards.specs.declared.types.Layout.{Layout}
+use Rattle.cards.specs.Banks.{standsIn}
 use Rattle.cards.specs.Rows.{masksIn, requiredIn}
-use Rattle.cards.specs.Sheets.{sizesIn, laidIn, registerIn}
-use Rattle.cards.specs.Cards.{sheetOf, chipOf, rowOf, layoutOf}
+use Rattle.cards.specs.Sheets.{sizesIn, laidIn, registerIn, selectorIn}
+use Rattle.cards.specs.Cards.{sheetOf, chipOf, banksOf, rowOf, layoutOf}
 
 -- what `cards::chip_of` promises
 pub record Names (number : ℕ) (named : Named) : Type 0 where
@@ -45,3 +47,11 @@ pub record LaysOut (chip : Chip) (number : ℕ) (facts : Layout) : Type 0 where
 -- what `cards::register_of` promises
 pub record Stands (chip : Chip) (number k : ℕ) (register : Register) : Type 0 where
   pub answer : register ≡ registerIn (sheetOf chip) number k
+
+-- what `cards::selector_of` promises
+pub record Selects (chip : Chip) (selector : Selector) : Type 0 where
+  pub answer : selector ≡ selectorIn (sheetOf chip)
+
+-- what `cards::position_of` promises
+pub record Positions (chip : Chip) (bank address position : ℕ) : Type 0 where
+  pub answer : position ≡ standsIn (banksOf chip) bank address

@@ -2,9 +2,11 @@
 -- Each line: the address, the writable bits, the bits that clear on one, the power-on value. docs/CARDS.md has the choices.
 -- Assumes nothing.
 use Prim.Native.Nat.{ℕ, _+_}
+use mathlib.Core.Bool.{false}
 use mathlib.Core.List.{List, [], _∷_}
 use Rattle.cards.specs.declared.types.Required.{Required}
 use Rattle.cards.specs.declared.types.Shape.the-variants.{Steps}
+use Rattle.cards.specs.Banks.{oneBank}
 use Rattle.cards.specs.Rows.{Line, required, Table, from}
 use Rattle.cards.specs.Sheets.{Sheet}
 
@@ -115,10 +117,10 @@ identity = required 0x5A 0xFF 0x02 ∷ required 0x5B 0xFF 0x04 ∷ required 0x5D
 
 -- "fan 1 has B1 to B4 at A0h to A3h and C1 to C5 from A4h to ADh, high byte first; fan 2 the same from B0h"
 abbrev pub table : ℕ → Table
-table base = record { settings = from base 4; speeds = from (base + 4) 10; shape = Steps }
+table base = record { settings = from base 4; speeds = from (base + 4) 10; shape = Steps; leading = false }
 
 abbrev pub tables : List Table
 tables = table 0xA0 ∷ table 0xB0 ∷ []
 
 abbrev pub sheet : Sheet
-sheet = record { number = 2; size = 256; card = card; identity = identity; tables = tables; temperatures = [] }
+sheet = record { number = 2; size = 256; banks = oneBank; card = card; identity = identity; tables = tables; temperatures = [] }

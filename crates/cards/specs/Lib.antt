@@ -1,3 +1,4 @@
+pub mod Banks
 pub mod Rows
 pub mod Sheets
 pub mod Nct7802y

@@ -2,9 +2,11 @@
 -- Each line: the address, the writable bits, the bits that clear on one, the power-on value. docs/CARDS.md has the choices.
 -- Assumes nothing.
 use Prim.Native.Nat.{ℕ, _+_}
+use mathlib.Core.Bool.{false}
 use mathlib.Core.List.{List, [], _∷_}
 use Rattle.cards.specs.declared.types.Required.{Required}
 use Rattle.cards.specs.declared.types.Shape.the-variants.{Slope}
+use Rattle.cards.specs.Banks.{oneBank}
 use Rattle.cards.specs.Rows.{Line, required, Reading, Table, from}
 use Rattle.cards.specs.Sheets.{Sheet}
 
@@ -187,10 +189,10 @@ temperature = record { width = 11; high = 0x01 ∷ 0x02 ∷ 0x03 ∷ []; low = 0
 
 -- "table 1 has T1 to T4 at 80h to 83h, critical 84h, FL1 to FL4 85h to 88h; table 2 the same from 90h, table 3 from A0h"
 abbrev pub table : ℕ → Table
-table base = record { settings = from base 5; speeds = from (base + 5) 4; shape = Slope 255 }
+table base = record { settings = from base 5; speeds = from (base + 5) 4; shape = Slope 255; leading = false }
 
 abbrev pub tables : List Table
 tables = table 0x80 ∷ table 0x90 ∷ table 0xA0 ∷ []
 
 abbrev pub sheet : Sheet
-sheet = record { number = 1; size = 256; card = card; identity = identity; tables = tables; temperatures = temperature ∷ [] }
+sheet = record { number = 1; size = 256; banks = oneBank; card = card; identity = identity; tables = tables; temperatures = temperature ∷ [] }

@@ -2,6 +2,7 @@
 -- Each line: the address, the writable bits, the bits that clear on one, the power-on value. docs/CARDS.md has the choices.
 -- Assumes nothing.
 use mathlib.Core.List.{List, [], _∷_}
+use Rattle.cards.specs.Banks.{oneBank}
 use Rattle.cards.specs.Rows.{Line, Reading}
 use Rattle.cards.specs.Sheets.{Sheet}
 
@@ -56,4 +57,4 @@ temperature = record { width = 12; high = 0x27 ∷ []; low = 0x06; bits = 0xF0 }
 
 -- "it has no identity rule here"; "chip 3: none" of the fan tables
 abbrev pub sheet : Sheet
-sheet = record { number = 3; size = 256; card = card; identity = []; tables = []; temperatures = temperature ∷ [] }
+sheet = record { number = 3; size = 256; banks = oneBank; card = card; identity = []; tables = []; temperatures = temperature ∷ [] }

@@ -54,6 +54,8 @@ pub record Table : Type 0 where
   pub settings : List ℕ
   pub speeds : List ℕ
   pub shape : Shape
+  -- the last setting, critical, leads in a record, where its register stands before the others
+  pub leading : Bool
 
 -- all registers of a table, in register order
 abbrev pub positions : Table → List ℕ

@@ -1,11 +1,12 @@
 -- A chip as one page of facts, everything that sets it apart from the others; and what is read off a page.
 -- Assumes nothing.
 use Prim.Native.Nat.{ℕ}
-use mathlib.Core.Bool.{Bool, cond, _&&_}
-use mathlib.Core.List.{List, [], _∷_, map}
+use mathlib.Core.Bool.{Bool, false, cond, _&&_}
+use mathlib.Core.List.{List, [], _∷_, _++_, map}
 use lib.Dec.{eqb, leb}
 use lib.ListN.{length, getD}
 use Rattle.cards.specs.declared.types.Register.{Register}
+use Rattle.cards.specs.declared.types.Selector.{Selector}
 use Rattle.cards.specs.declared.types.Required.{Required}
 use Rattle.cards.specs.declared.types.Sizes.{Sizes}
 use Rattle.cards.specs.declared.types.Shape.{Shape}
@@ -13,6 +14,7 @@ use Rattle.cards.specs.declared.types.Shape.the-variants.{Slope, Steps}
 use Rattle.cards.specs.declared.types.Layout.{Layout}
 use Rattle.cards.specs.declared.types.Fan.{Fan}
 use Rattle.cards.specs.declared.types.Fan.the-variants.{Laid, Nothing}
+use Rattle.cards.specs.Banks.{Banks, noBank, selectsFrom}
 use Rattle.cards.specs.Rows.{every, Line, Table, Reading, positions, rowIn, registerAt, noRegister, column}
 
 -- no image has more bytes
@@ -24,6 +26,8 @@ pub record Sheet : Type 0 where
   pub number : ℕ
   -- how many bytes its image has
   pub size : ℕ
+  -- how its registers stand in banks
+  pub banks : Banks
   pub card : List Line
   -- every register that counts; where there is none, nothing is confirmed
   pub identity : List Required
@@ -42,7 +46,7 @@ powerOnIn sheet = column (sheet .size) (λ position. rowIn (sheet .card) positio
 
 -- a table without a register stands in where there is none, as for number 0
 abbrev pub missing : Table
-missing = record { settings = []; speeds = []; shape = Steps }
+missing = record { settings = []; speeds = []; shape = Steps; leading = false }
 
 -- how many settings and speeds a curve of a shape has: T1 to T4 and critical, FL1 to FL4; B1 to B4, the high and low bytes of C1 to C5
 abbrev pub room : Shape → ℕ × ℕ
@@ -60,13 +64,32 @@ tableIn tables number = getD (missing ∷ tables) number missing
 abbrev pub wholeIn : List Line → Table → Bool
 wholeIn card table = every (λ position. eqb (rowIn card position .writable) 0xFF) (positions table)
 
--- how many registers it has of each kind, what its curve is, and whether they take every bit
-abbrev pub layout : List Line → Table → Layout
-layout card table =
-    record { settings = length (table .settings); speeds = length (table .speeds); shape = table .shape; whole = wholeIn card table }
+-- the registers that a script of the table writes to, in its order: every speed, every setting, every speed again
+abbrev pub loaded : Table → List ℕ
+loaded table = table .speeds ++ (table .settings ++ table .speeds)
+
+-- how many registers it has of each kind, what its curve is, whether they take every bit, how many selects its script has, and how a
+-- record has it
+abbrev pub layout : Banks → List Line → Table → Layout
+layout banks card table =
+    record {
+      settings = length (table .settings);
+      speeds = length (table .speeds);
+      shape = table .shape;
+      whole = wholeIn card table;
+      selects = selectsFrom banks noBank (loaded table);
+      leading = table .leading;
+    }
 
 abbrev pub laidIn : Sheet → ℕ → Fan
-laidIn sheet number = cond (hasTableIn (sheet .tables) number) (Laid (layout (sheet .card) (tableIn (sheet .tables) number))) Nothing
+laidIn sheet number =
+    cond (hasTableIn (sheet .tables) number) (Laid (layout (sheet .banks) (sheet .card) (tableIn (sheet .tables) number))) Nothing
+
+-- the bank select register and its bits that say the bank; without a bit there is one bank only, and no register that selects
+abbrev pub selectorIn : Sheet → Selector
+selectorIn sheet =
+    cond (eqb (sheet .banks .bits) 0) (record { register = noRegister; bits = 0x00 })
+    (record { register = registerAt (sheet .card) (sheet .banks .select); bits = sheet .banks .bits })
 
 -- the k-th register of a table, settings first
 abbrev pub registerIn : Sheet → ℕ → ℕ → Register

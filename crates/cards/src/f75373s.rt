@@ -122,6 +122,8 @@ pub(crate) fn table(number: u8) -> Fan
             speeds: 10,
             shape: Shape::Steps,
             whole: true,
+            selects: 0,
+            leading: false,
         }),
         _ => Fan::Nothing,
     }

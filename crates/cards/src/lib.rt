@@ -12,11 +12,13 @@ pub use types::Masks;
 use types::NO_REGISTER;
 use types::NOTHING;
 pub use types::Named;
+use types::ONE_BANK;
 pub use types::Register;
 pub use types::Required;
+pub use types::Selector;
 pub use types::Shape;
 pub use types::Sizes;
-ghost use Rattle.cards.specs.Contracts.{Names, Finds, PowersOn, TellsSizes, Requires, Lays, LaysOut, Stands};
+ghost use Rattle.cards.specs.Contracts.{Names, Finds, PowersOn, TellsSizes, Requires, Lays, LaysOut, Stands, Selects, Positions};
 
 // How many bytes an image has at most.
 pub const GREATEST: usize = 256;
@@ -106,5 +108,27 @@ pub fn register_of(chip: Chip, number: u8, k: usize) -> Register
         Chip::Nct7802y => nct7802y::register(number, k),
         Chip::F75373s => f75373s::register(number, k),
         Chip::Nct80 => NO_REGISTER,
+    }
+}
+
+// The register that selects a bank of the chip.
+pub fn selector_of(chip: Chip) -> Selector
+    ensures { λ r. ⌜ Selects chip r ⌝ }
+{
+    match chip {
+        Chip::Nct7802y => ONE_BANK,
+        Chip::F75373s => ONE_BANK,
+        Chip::Nct80 => ONE_BANK,
+    }
+}
+
+// The position of the image that an address is while a bank is selected.
+pub fn position_of(chip: Chip, bank: u8, address: u8) -> usize
+    ensures { λ r. ⌜ Positions chip bank address r ⌝ }
+{
+    match chip {
+        Chip::Nct7802y => address as usize,
+        Chip::F75373s => address as usize,
+        Chip::Nct80 => address as usize,
     }
 }

@@ -116,6 +116,8 @@ pub(crate) fn table(number: u8) -> Fan
             speeds: 4,
             shape: Shape::Slope(255),
             whole: true,
+            selects: 0,
+            leading: false,
         }),
         _ => Fan::Nothing,
     }

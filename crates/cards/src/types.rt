@@ -29,6 +29,12 @@ pub struct Register {
     pub masks: Masks,
 }
 
+// The register that selects a bank, and its bits that say which; no bit where there is one bank only.
+pub struct Selector {
+    pub register: Register,
+    pub bits: u8,
+}
+
 // How many bytes a chip's image has, and how many registers its identity looks at.
 pub struct Sizes {
     pub image: usize,
@@ -48,12 +54,15 @@ pub enum Shape {
     Steps,
 }
 
-// How many registers of each kind a fan table has, what its curve is, and whether every register of it takes every bit: then each byte fits.
+// How many registers of each kind a fan table has, what its curve is, whether every register of it takes every bit, so that each byte fits, how
+// many selects of a bank its script has, and whether critical leads in its record.
 pub struct Layout {
     pub settings: usize,
     pub speeds: usize,
     pub shape: Shape,
     pub whole: bool,
+    pub selects: usize,
+    pub leading: bool,
 }
 
 // The fan table of a number, if there is one.
@@ -88,12 +97,20 @@ pub(crate) const NO_REGISTER: Register = Register {
     masks: NO_MASKS,
 };
 
+// Where there is one bank only.
+pub(crate) const ONE_BANK: Selector = Selector {
+    register: NO_REGISTER,
+    bits: 0x00,
+};
+
 // The table of a number that has none.
 pub(crate) const MISSING: Layout = Layout {
     settings: 0,
     speeds: 0,
     shape: Shape::Steps,
     whole: true,
+    selects: 0,
+    leading: false,
 };
 
 // No bit of any register.

@@ -13,7 +13,7 @@ use Rattle.refusal.specs.Answers.{tellsAmount}
 use Rattle.refusal.specs.Checks.{Check, first, roomChecks}
 use Rattle.refusal.proofs.Numbers.{numberOf-positive}
 use Rattle.refusal.proofs.Passed.{first-refused, told-refused, when-refused, same-told, same-left}
-use Rattle.cards.specs.Cards.{shapeOf}
+use Rattle.cards.specs.Cards.{shapeOf, layoutOf}
 use Rattle.curves.specs.declared.Plan.{Plan}
 use Rattle.plans.specs.declared.Asked.{Asked}
 use Rattle.plans.specs.declared.Asked.the-variants as asked
@@ -74,10 +74,11 @@ crossed chip table body n found P e =
     let T = plan-taken chip table body n found P e in
     let W = T .whole in
     let shape = shapeOf (W .chip) table in
-    let in-body : planOf chip table body ≡ decoded shape chip table body = rw (W .named) in
+    let leading = layoutOf (W .chip) table .leading in
+    let in-body : planOf chip table body ≡ decoded leading shape chip table body = rw (W .named) in
     record {
       same = T .plan-in ∙ sym in-body;
-      sized = rw (T .plan-in) (decoded-sized shape chip table body);
+      sized = rw (T .plan-in) (decoded-sized leading shape chip table body);
       asks = ap (λ (p : Plan). first (askPlanChecks p)) in-body ∙ whole-asked chip table body W;
       checks = λ more. ap (λ (p : Plan). first (planChecks p ++ more)) in-body ∙ whole-judged chip table body W more;
     }

@@ -17,8 +17,9 @@ use Rattle.cards.specs.declared.types.Named.the-variants.{Known}
 use Rattle.cards.specs.declared.types.Fan.{Fan}
 use Rattle.cards.specs.declared.types.Layout.{Layout}
 use Rattle.cards.specs.Rows.{masksIn, requiredIn, column}
-use Rattle.cards.specs.Sheets.{sizesIn, missing, layout, registerIn}
-use Rattle.cards.specs.Cards.{sheetOf, chipOf, chipNumber, unknown, hasTable, rowOf, layoutOf, tellsNamed, tellsFan}
+use Rattle.cards.specs.Banks.{oneBank, standsIn}
+use Rattle.cards.specs.Sheets.{sizesIn, missing, layout, registerIn, selectorIn}
+use Rattle.cards.specs.Cards.{sheetOf, banksOf, chipOf, chipNumber, unknown, hasTable, rowOf, layoutOf, tellsNamed, tellsFan}
 use Rattle.cards.specs.Contracts.{Names, Lays}
 use Rattle.cards.proofs.Told.{names-told, lays-told}
 use Rattle.cards.specs.Identity.{confirmed}
@@ -36,12 +37,12 @@ use Rattle.watch.specs.Alarm.{fresh, taken, isSample, acknowledged, shown, run,
 use Rattle.watch.specs.Contracts as watch
 use Rattle.curves.specs.declared.Plan.{Plan}
 use Rattle.curves.specs.Planned.{planned, asks, temperaturesInOrder, speedsInOrder, fullOf}
-use Rattle.bodies.specs.Bodies.{body, decoded}
+use Rattle.bodies.specs.Bodies.{bodyOf, decoded}
 use Rattle.plans.specs.Contracts.{planChecks, Accepts}
 use Rattle.plans.proofs.Laws.{accepted-plan, refused-plan}
 use Rattle.records.proofs.RoundTrip.{read-written, written-read}
-use Rattle.scripts.specs.Scripts.{scriptOf}
-use Rattle.scripts.specs.Played.{played}
+use Rattle.scripts.specs.Scripts.{placements, routed, scriptOf}
+use Rattle.scripts.specs.Played.{laid}
 use Rattle.clib.specs.Facts.{factsOf}
 use Rattle.clib.specs.Demands.{Answered, Demand1, Demand2}
 use Rattle.clib.proofs.Answered.{told-answered, left-kept, verdict-answered, count-answered, found-answered, never-refused, packed-answered, packed-verdict, packed-count, used-answered}
@@ -55,12 +56,12 @@ named-answered number r p = told-answered 0 number ((unknown number, 3) ∷ []) 
     by-test false = refl
 
 laid-answered : (chip : Chip) (number : ℕ) (r : Fan) → Lays chip number r
-    → Answered ((not (hasTable chip number), 4) ∷ []) (layout [] missing) (tellsFan r)
+    → Answered ((not (hasTable chip number), 4) ∷ []) (layout oneBank [] missing) (tellsFan r)
 laid-answered chip number r p =
-    told-answered (layout [] missing) (layoutOf chip number) ((not (hasTable chip number), 4) ∷ [])
+    told-answered (layout oneBank [] missing) (layoutOf chip number) ((not (hasTable chip number), 4) ∷ [])
     (lays-told p ∙ by-test (hasTable chip number) (layoutOf chip number))
   where
-    by-test : (b : Bool) (facts : Layout) → cond b (0, facts) (4, layout [] missing) ≡ toldOr (layout [] missing) ((not b, 4) ∷ []) facts
+    by-test : (b : Bool) (facts : Layout) → cond b (0, facts) (4, layout oneBank [] missing) ≡ toldOr (layout oneBank [] missing) ((not b, 4) ∷ []) facts
     by-test true facts = refl
     by-test false facts = refl
 
@@ -94,6 +95,8 @@ demand-1 =
       table-of = laid-answered;
       layout-of = λ chip number. record { answer = layoutOf chip number; kept = record { answer = refl } };
       register-of = λ chip number k. record { answer = registerIn (sheetOf chip) number k; kept = record { answer = refl } };
+      selector-of = λ chip. record { answer = selectorIn (sheetOf chip); kept = record { answer = refl } };
+      position-of = λ chip bank address. record { answer = standsIn (banksOf chip) bank address; kept = record { answer = refl } };
       admit = λ chip size r p. told-answered 0 chip _ (admits-told p);
       write = λ chip old address byte r new p. (verdict-answered r _ (p .answer), left-kept (imageChecks chip old) _ (p .answer) (p .bytes));
       place = λ register byte old. record { answer = storedAt (register .masks) (register .position) byte old; kept = record { bytes = refl } };
@@ -113,8 +116,8 @@ demand-1 =
       temperatures-in-order = λ shape plan. record { answer = temperaturesInOrder shape plan; kept = record { answer = refl } };
       speeds-in-order = λ shape plan. record { answer = speedsInOrder shape plan; kept = record { answer = refl } };
       full-of = λ shape. record { answer = fullOf shape; kept = record { answer = refl } };
-      plan-of = λ shape chip table bytes. record { answer = decoded shape chip table bytes; kept = record { answer = refl } };
-      body-of = λ shape plan. record { answer = column 14 (λ k. getD (body (planned shape plan)) k 0); kept = record { answer = refl } };
+      plan-of = λ leading shape chip table bytes. record { answer = decoded leading shape chip table bytes; kept = record { answer = refl } };
+      body-of = λ leading shape plan. record { answer = column 14 (λ k. getD (bodyOf leading shape plan) k 0); kept = record { answer = refl } };
       accept = accept-answered;
       judge = λ plan r p. verdict-answered r _ (p .answer);
       asked-of-plan = λ plan t r p. told-answered 0 _ _ (p .answer);
@@ -125,7 +128,7 @@ demand-1 =
       script = λ plan old r new p. count-answered r _ _ _ (p .answer) (p .bytes);
       make = λ chip plan count old.
           record {
-            answer = (min count (length (scriptOf chip plan)), played chip (take count (scriptOf chip plan)) old);
+            answer = (min count (length (scriptOf chip plan)), laid chip (take count (routed chip (placements chip plan))) old);
             kept = record { answer = refl; bytes = refl };
           };
       play = λ plan old count r new p. count-answered r _ _ _ (p .answer) (p .bytes);

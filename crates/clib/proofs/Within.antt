@@ -35,10 +35,10 @@ told-within {t} checks value bound h e = rw (ap (λ (u : ℕ × ℕ). u .1) e) (
     by-test true = h
     by-test false = omega arith
 
-script-within : (plan : Plan) → length (scriptFor plan) ≤ 28
+script-within : (plan : Plan) → length (scriptFor plan) ≤ 56
 script-within plan = by-name (chipOf (plan .chip))
   where
-    by-name : (named : Named) → length (whenKnown named (λ c. scriptOf c plan) []) ≤ 28
+    by-name : (named : Named) → length (whenKnown named (λ c. scriptOf c plan) []) ≤ 56
     by-name (Known chip) = script-short chip plan
     by-name Unknown = omega arith
 

@@ -2,7 +2,7 @@
 -- Assumes nothing.
 use Prim.Native.Nat.{ℕ, _≤_, _<_, _/_, _%_}
 use mathlib.Core.Path.{_≡_}
-use mathlib.Core.Bool.{true, not}
+use mathlib.Core.Bool.{Bool, true, not}
 use mathlib.Core.List.{List, [], _∷_, _++_}
 use lib.IntN.{ℤ, pos}
 use lib.ListN.{length, getD, take, drop}
@@ -20,9 +20,10 @@ use Rattle.cards.specs.declared.types.Named.the-variants.{Known}
 use Rattle.cards.specs.declared.types.Fan.{Fan}
 use Rattle.cards.specs.declared.types.Register.{Register}
 use Rattle.cards.specs.declared.types.Shape.{Shape}
+use Rattle.cards.specs.Banks.{oneBank}
 use Rattle.cards.specs.Sheets.{missing, layout}
 use Rattle.cards.specs.Cards.{chipOf, unknown, hasTable, tellsNamed, tellsFan}
-use Rattle.cards.specs.Contracts.{Names, Finds, PowersOn, TellsSizes, Requires, Lays, LaysOut, Stands}
+use Rattle.cards.specs.Contracts.{Names, Finds, PowersOn, TellsSizes, Requires, Lays, LaysOut, Stands, Selects, Positions}
 use Rattle.cards.specs.Identity.{confirmed}
 use Rattle.images.specs.declared.Admitted.{Admitted}
 use Rattle.images.specs.declared.ByteRead.{ByteRead}
@@ -91,9 +92,11 @@ pub record Demand1 : Type 0 where
   pub sizes-of : (chip : Chip) → Given (λ sizes. TellsSizes chip sizes)
   pub required-of : (chip : Chip) (k : ℕ) → Given (λ required. Requires chip k required)
   pub table-of : (chip : Chip) (number : ℕ) (r : Fan) → Lays chip number r
-      → Answered ((not (hasTable chip number), 4) ∷ []) (layout [] missing) (tellsFan r)
+      → Answered ((not (hasTable chip number), 4) ∷ []) (layout oneBank [] missing) (tellsFan r)
   pub layout-of : (chip : Chip) (number : ℕ) → Given (λ facts. LaysOut chip number facts)
   pub register-of : (chip : Chip) (number k : ℕ) → Given (λ register. Stands chip number k register)
+  pub selector-of : (chip : Chip) → Given (λ selector. Selects chip selector)
+  pub position-of : (chip : Chip) (bank address : ℕ) → Given (λ position. Positions chip bank address position)
   -- register images
   pub admit : (chip size : ℕ) (r : Admitted) → images.Admits chip size r → Answered (images.sizeChecks chip size) 0 (images.tellsAdmitted r)
   pub write : (chip : ℕ) (old : List ℕ) (address byte : ℕ) (r : Outcome) (new : List ℕ) → images.WritesByte chip old address byte r new
@@ -123,8 +126,8 @@ pub record Demand1 : Type 0 where
   pub temperatures-in-order : (shape : Shape) (plan : Plan) → Given (λ r. curves.OrdersTemperatures shape plan r)
   pub speeds-in-order : (shape : Shape) (plan : Plan) → Given (λ r. curves.OrdersSpeeds shape plan r)
   pub full-of : (shape : Shape) → Given (λ r. curves.Raises shape r)
-  pub plan-of : (shape : Shape) (chip table : ℕ) (bytes : List ℕ) → Given (λ plan. bodies.Decodes shape chip table bytes plan)
-  pub body-of : (shape : Shape) (plan : Plan) → Given (λ bytes. bodies.EncodesBody shape plan bytes)
+  pub plan-of : (leading : Bool) (shape : Shape) (chip table : ℕ) (bytes : List ℕ) → Given (λ plan. bodies.Decodes leading shape chip table bytes plan)
+  pub body-of : (leading : Bool) (shape : Shape) (plan : Plan) → Given (λ bytes. bodies.EncodesBody leading shape plan bytes)
   pub accept : (plan : Plan) (r : Admitted) → plans.Accepts plan r → Answered (plans.planChecks plan) 0 (images.tellsAdmitted r)
   pub judge : (plan : Plan) (r : Outcome) → plans.Judges plan r → Answered (plans.planChecks plan) tt (verdict r)
   pub asked-of-plan : (plan : Plan) (t : ℕ) (r : Asked) → plans.AsksPlan plan t r → Answered (plans.askPlanChecks plan) 0 (plans.tellsAsked r)

@@ -7,12 +7,12 @@ use native.Mathlib.Omega.{arith}
 use mathlib.Core.Path.{_≡_, refl, sym, ap, ap₂, _∙_}
 use mathlib.Core.Bool.{Bool, true, false, cond, _&&_}
 use mathlib.Core.List.{List}
-use borrow.Author.Tests.{eq-eqb}
+use borrow.Author.Tests.{eq-eqb, ltb-true, ltb-false}
 use lib.Arith.{lt-one}
-use lib.Bits.{bitAnd, and-step}
-use lib.Dec.{eqb}
+use lib.Bits.{bitAnd, and-step, and-self}
+use lib.Dec.{eqb, ltb}
 use lib.ListN.{length, getD, set, length-set}
-use lib.Seq.{getD-set-same, getD-set-other, set-getD}
+use lib.Seq.{getD-set-same, getD-set-other, set-getD, set-out}
 use Rattle.refusal.specs.declared.Outcome.{Outcome}
 use Rattle.refusal.specs.Answers.{tells}
 use Rattle.cards.specs.declared.types.Chip.{Chip}
@@ -55,37 +55,62 @@ stored-last n w c o x =
     let small : storedBit (w % 2) (c % 2) (o % 2) (x % 2) < 2 = one-bit (w % 2) (c % 2) (o % 2) (x % 2) (omega arith) (omega arith) in
     omega arith
 
--- a writable bit is the new one
-taken-bit : (w c o x : ℕ) → min (storedBit (w % 2) c o x) (w % 2) ≡ min x (w % 2)
-taken-bit w c o x = digit (λ w'. min (storedBit w' c o x) w' ≡ min x w') of-bit w
-  where
-    of-bit : (b : Bool) → min (storedBit (bit b) c o x) (bit b) ≡ min x (bit b)
-    of-bit false = min-zero (storedBit 0 c o x) ∙ sym (min-zero x)
-    of-bit true = refl
+-- a writable bit is the new one; one that is not asked does not matter
+taken-bit : (w m : Bool) (c o x : ℕ) → min (bit w) (bit m) ≡ bit m → min (storedBit (bit w) c o x) (bit m) ≡ min x (bit m)
+taken-bit w false c o x p = min-zero (storedBit (bit w) c o x) ∙ sym (min-zero x)
+taken-bit true true c o x p = refl
+taken-bit false true c o x p = absurd (omega arith)
 
-taken-bits : (n w c o x : ℕ) → x < 2 ^ n → bitAnd (storedBits n w c o x) w ≡ bitAnd x w
-taken-bits zero w c o x h = ap (λ (y : ℕ). bitAnd y w) (sym (lt-one h))
-taken-bits (suc n) w c o x h =
+taken-digit : (w m c o x : ℕ) → min (w % 2) (m % 2) ≡ m % 2 → min (storedBit (w % 2) c o x) (m % 2) ≡ min x (m % 2)
+taken-digit w m c o x =
+    digit (λ w'. min w' (m % 2) ≡ m % 2 → min (storedBit w' c o x) (m % 2) ≡ min x (m % 2))
+    (λ wb. digit (λ m'. min (bit wb) m' ≡ m' → min (storedBit (bit wb) c o x) m' ≡ min x m') (λ mb. taken-bit wb mb c o x) m) w
+
+-- of n bits, those asked that are all writable are the new ones
+taken-bits : (n w c m o x : ℕ) → x < 2 ^ n → bitAnd w m ≡ m → bitAnd (storedBits n w c o x) m ≡ bitAnd x m
+taken-bits zero w c m o x h p = ap (λ (y : ℕ). bitAnd y m) (sym (lt-one h))
+taken-bits (suc n) w c m o x h p =
+    let step : bitAnd (w / 2) (m / 2) * 2 + min (w % 2) (m % 2) ≡ m = sym (and-step w m) ∙ p in
     let less : x / 2 < 2 ^ n = omega (arith, rw pow-suc at h) in
-    and-step (storedBits (suc n) w c o x) w
+    and-step (storedBits (suc n) w c o x) m
     ∙ ap₂ (λ (a b : ℕ). a * 2 + b)
-    (ap (λ (y : ℕ). bitAnd y (w / 2)) (stored-half n w c o x) ∙ taken-bits n (w / 2) (c / 2) (o / 2) (x / 2) less)
-    (ap (λ (y : ℕ). min y (w % 2)) (stored-last n w c o x) ∙ taken-bit w (c % 2) (o % 2) (x % 2))
-    ∙ sym (and-step x w)
+    (ap (λ (y : ℕ). bitAnd y (m / 2)) (stored-half n w c o x)
+    ∙ taken-bits n (w / 2) (c / 2) (m / 2) (o / 2) (x / 2) less (omega arith))
+    (ap (λ (y : ℕ). min y (m % 2)) (stored-last n w c o x) ∙ taken-digit w m (c % 2) (o % 2) (x % 2) (omega arith))
+    ∙ sym (and-step x m)
 
--- so a value that fits the writable bits is seen there afterwards, whatever they are
+-- of a byte that is written, bits that are all writable are there afterwards
+pub storedAt-under : (masks : Masks) (position byte : ℕ) (image : List ℕ) (bits : ℕ) → bitAnd (masks .writable) bits ≡ bits → byte < 2 ^ 8
+    → position < length image → bitAnd (getD (storedAt masks position byte image) position 0) bits ≡ bitAnd byte bits
+unfolding storedAt stored
+storedAt-under masks position byte image bits p h inside =
+    ap (λ (y : ℕ). bitAnd y bits) (getD-set-same image position (stored masks (getD image position 0) byte) 0 inside)
+    ∙ taken-bits 8 (masks .writable) (masks .clears) bits (getD image position 0) byte h p
+
+-- so a value that fits the writable bits is seen there, whatever they are
 pub storedAt-takes : (masks : Masks) (position value : ℕ) (image : List ℕ) → bitAnd value (masks .writable) ≡ value → value < 2 ^ 8
     → position < length image → bitAnd (getD (storedAt masks position value image) position 0) (masks .writable) ≡ value
-unfolding storedAt stored
 storedAt-takes masks position value image fits h inside =
-    ap (λ (y : ℕ). bitAnd y (masks .writable)) (getD-set-same image position (stored masks (getD image position 0) value) 0 inside)
-    ∙ taken-bits 8 (masks .writable) (masks .clears) (getD image position 0) value h
-    ∙ fits
+    storedAt-under masks position value image (masks .writable) (and-self (masks .writable)) h inside ∙ fits
 
--- Where an access lands. This alone opens `position`: what lies above goes by this law, or by positions.
-pub lands : (chip : Chip) (image : List ℕ) (address : ℕ) → position chip image address ≡ address
-unfolding position
-lands chip image address = refl
+-- what it stores goes by the byte that was there
+pub storedAt-there : (masks : Masks) (position byte : ℕ) (x y : List ℕ) → length x ≡ length y → getD x position 0 ≡ getD y position 0
+    → getD (storedAt masks position byte x) position 0 ≡ getD (storedAt masks position byte y) position 0
+unfolding storedAt
+storedAt-there masks position byte x y long same = by-place (ltb position (length x)) refl
+  where
+    by-place : (inside : Bool) → ltb position (length x) ≡ inside
+        → getD (set x position (stored masks (getD x position 0) byte)) position 0 ≡ getD (set y position (stored masks (getD y position 0) byte)) position 0
+    by-place true e =
+        let h = ltb-true position (length x) e in
+        getD-set-same x position (stored masks (getD x position 0) byte) 0 h
+        ∙ ap (λ (b : ℕ). stored masks b byte) same
+        ∙ sym (getD-set-same y position (stored masks (getD y position 0) byte) 0 (omega (arith, long)))
+    by-place false e =
+        let h = ltb-false position (length x) e in
+        ap (λ (l : List ℕ). getD l position 0) (set-out x position (stored masks (getD x position 0) byte) h)
+        ∙ same
+        ∙ sym (ap (λ (l : List ℕ). getD l position 0) (set-out y position (stored masks (getD y position 0) byte) (omega (arith, long))))
 
 -- no bit of either mask: every bit is the old one
 none-writable : (n o x : ℕ) → o < 2 ^ n → storedBits n 0 0 o x ≡ o

@@ -3,5 +3,6 @@ pub mod Masks
 pub mod Filling
 pub mod Admission
 pub mod Laws
+pub mod Landing
 pub mod Kept
 pub mod Unique

@@ -3,12 +3,14 @@
 use Prim.Native.Nat.{ℕ, zero, suc, _+_, _*_, _/_, _%_}
 use mathlib.Core.Bool.{cond, _&&_}
 use mathlib.Core.List.{List}
+use lib.Bits.{bitAnd}
 use lib.Dec.{eqb}
 use lib.ListN.{getD, set}
 use Rattle.cards.specs.declared.types.Chip.{Chip}
 use Rattle.cards.specs.declared.types.Masks.{Masks}
+use Rattle.cards.specs.Banks.{standsIn}
 use Rattle.cards.specs.Rows.{masksIn}
-use Rattle.cards.specs.Cards.{rowOf}
+use Rattle.cards.specs.Cards.{rowOf, banksOf}
 
 -- "A byte write to an address replaces the writable bits, clears those clear bits where a 1 is written, and keeps the others."
 abbrev pub storedBit : ℕ → ℕ → ℕ → ℕ → ℕ
@@ -31,9 +33,14 @@ storedAt masks position byte image = set image position (stored masks (getD imag
 abbrev pub placed : Chip → ℕ → ℕ → List ℕ → List ℕ
 placed chip position byte image = storedAt (masksIn (rowOf chip position)) position byte image
 
--- Where a bus access lands: the position is the address. Chip 1: "its image is bank 0, which counts as selected whatever 00h holds".
+-- "The bank selected is what the bank bits of the bank select register say, whatever its other bits hold". Chip 1 has one bank here: "its image is
+-- bank 0, which counts as selected whatever 00h holds".
+unfoldable pub selected : Chip → List ℕ → ℕ
+selected chip image = bitAnd (getD image (banksOf chip .select) 0) (banksOf chip .bits)
+
+-- Where a bus access lands, behind the image's end in a bank that the chip lacks.
 unfoldable pub position : Chip → List ℕ → ℕ → ℕ
-position chip image address = address
+position chip image address = standsIn (banksOf chip) (selected chip image) address
 
 -- a write on the bus ..
 abbrev pub written : Chip → ℕ → ℕ → List ℕ → List ℕ

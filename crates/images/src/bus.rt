@@ -3,13 +3,32 @@ use crate::place;
 use cards::Chip;
 use cards::Register;
 ghost use mathlib.Core.Path.{_≡_};
-ghost use Rattle.images.specs.Bytes.{position, written, seen};
+ghost use lib.ListN.{getD};
+ghost use Rattle.images.specs.Bytes.{selected, position, written, seen};
+
+fn byte_at(image: &[u8], at: usize) -> u8
+    ensures { λ r. ⌜ r ≡ getD (now (image .entry)) at 0 ⌝ }
+{
+    if at < image.len() {
+        return image[at];
+    }
+    0
+}
+
+// The bank that is selected.
+fn selected(chip: Chip, image: &[u8]) -> u8
+    ensures { λ r. ⌜ r ≡ selected chip (now (image .entry)) ⌝ }
+{
+    let selector = cards::selector_of(chip);
+    let register = selector.register;
+    byte_at(image, register.position) & selector.bits
+}
 
 // The position of the image that an address is.
 fn position(chip: Chip, image: &[u8], address: u8) -> usize
     ensures { λ r. ⌜ r ≡ position chip (now (image .entry)) address ⌝ }
 {
-    address as usize
+    cards::position_of(chip, selected(chip, image), address)
 }
 
 pub(crate) fn store(chip: Chip, image: &mut [u8], address: u8, byte: u8)
@@ -26,9 +45,5 @@ pub(crate) fn store(chip: Chip, image: &mut [u8], address: u8, byte: u8)
 pub(crate) fn load(chip: Chip, image: &[u8], address: u8) -> u8
     ensures { λ r. ⌜ r ≡ seen chip address (now (image .entry)) ⌝ }
 {
-    let at = position(chip, image, address);
-    if at < image.len() {
-        return image[at];
-    }
-    0
+    byte_at(image, position(chip, image, address))
 }

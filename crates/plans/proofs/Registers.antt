@@ -3,7 +3,7 @@
 use Prim.Native.Nat.{ℕ, zero, suc, _+_, _-_, _≤_, _<_}
 use native.Mathlib.Omega.{arith}
 use mathlib.Core.Path.{_≡_, refl, sym, ap, ap₂, _∙_}
-use mathlib.Core.Bool.{So}
+use mathlib.Core.Bool.{So, false}
 use mathlib.Core.List.{List, _∷_, map}
 use lib.ListN.{length, getD, take, drop, length-append, length-drop}
 use lib.Seq.{take-at, drop-at, take-all}
@@ -63,17 +63,17 @@ module _ (chip : Chip) (chipNumber number : ℕ) (image : List ℕ) where
 
   -- so a body of the registers' bits asks what the registers of the table ask
   pub registers-ask : (t : ℕ) → So (hasTable chip number)
-      → asks (shapeOf chip number) (planned (shapeOf chip number) (decoded (shapeOf chip number) chipNumber number bytes)) t
+      → asks (shapeOf chip number) (planned (shapeOf chip number) (decoded false (shapeOf chip number) chipNumber number bytes)) t
       ≡ asks (shapeOf chip number) (held chip number image) t
   registers-ask t has = by-shape (shapeOf chip number) (table-sized chip number has)
     where
       by-shape : (shape : Shape) → (length (table .settings) ≡ room shape .0) × (length (table .speeds) ≡ room shape .1)
-          → asks shape (planned shape (decoded shape chipNumber number bytes)) t ≡ asks shape (held chip number image) t
+          → asks shape (planned shape (decoded false shape chipNumber number bytes)) t ≡ asks shape (held chip number image) t
       by-shape (Slope full) long =
           ap (λ (curve : Curve). asks (Slope full) curve t)
           (λ i. record { settings = front 5 (omega arith) (long .0) i; speeds = back 5 4 (omega arith) (long .0) (long .1) i })
       by-shape Steps long =
-          sym (planned-count (decoded Steps chipNumber number bytes) t)
+          sym (planned-count (decoded false Steps chipNumber number bytes) t)
           ∙ ap₂ (λ (bounds counts : List ℕ). stepRule bounds (words counts) t) (front 4 (omega arith) (long .0)) (back 4 10 (omega arith) (long .0) (long .1))
 
 -- a part of a slice up to its end

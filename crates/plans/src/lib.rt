@@ -87,7 +87,7 @@ pub fn asked_of_image(chip: u8, table: u8, image: &[u8], t: u8) -> Asked
                 }
                 let body = tables::held(known, table, image);
                 let shape = layout.shape;
-                let plan = bodies::plan_of(shape, chip, table, body);
+                let plan = bodies::plan_of(shape, false, chip, table, body);
                 Asked::Speed(curves::speed_of(shape, plan, t))
             }
         },

@@ -69,7 +69,7 @@ pub(crate) fn fit(chip: Chip, plan: Plan, layout: Layout) -> Fitting
         };
     }
     let shape = layout.shape;
-    let body = bodies::body_of(shape, plan);
+    let body = bodies::body_of(shape, false, plan);
     let table = plan.table;
     let settings = layout.settings;
     Fitting {

@@ -3,6 +3,8 @@
 use Prim.Native.Nat.{ℕ, min}
 use mathlib.Core.Path.{_≡_, refl, sym, ap, _∙_}
 use mathlib.Core.List.{List}
+use borrow.Author.Tests.{eqb-true, not-false}
+use lib.Dec.{eqb}
 use lib.ListN.{length, take}
 use Rattle.refusal.specs.declared.Refusal.{Refusal}
 use Rattle.refusal.specs.Refusals.{numberOf}
@@ -12,14 +14,16 @@ use Rattle.refusal.specs.declared.Outcome.the-variants as outcome
 use Rattle.refusal.proofs.Passed.{all-passed, first-passed, when-passed, when-refused, told-passed, told-refused}
 use Rattle.cards.specs.declared.types.Chip.{Chip}
 use Rattle.cards.specs.declared.types.Named.the-variants.{Known}
-use Rattle.cards.specs.Cards.{chipOf, whenKnown}
+use Rattle.cards.specs.Cards.{chipOf, whenKnown, sizeOf}
 use Rattle.identities.specs.Contracts.{identityChecks, Confirms}
 use Rattle.curves.specs.declared.Plan.{Plan}
 use Rattle.plans.specs.Contracts.{planChecks}
-use Rattle.scripts.specs.Scripts.{scriptOf, scriptFor}
+use Rattle.scripts.specs.Scripts.{placements, scriptOf, scriptFor}
 use Rattle.scripts.specs.Played.{played}
 use Rattle.scripts.specs.Contracts.{Makes}
 use Rattle.scripts.proofs.Answers.{still-refused}
+use Rattle.scripts.proofs.Bus.{bus-cut}
+use Rattle.scripts.proofs.Prepared.{placements-stand}
 use Rattle.plays.specs.Contracts.{startChecks, playChecks, Plays}
 
 module _ (plan : Plan) (image : List ℕ) (count : ℕ) where
@@ -48,7 +52,11 @@ module _ (plan : Plan) (image : List ℕ) (count : ℕ) where
   play-made {n} {new} chip named e c m =
       let none : first (playChecks plan image) ≡ 0 = same-checks e ∙ sym (c .answer) in
       let all : n ≡ writes = m .answer ∙ rw named in
-      let bytes : new ≡ whenKnown (chipOf (plan .chip)) (λ c. played c (take count (scriptOf c plan)) image) image = m .bytes ∙ rw named in
+      let long : length image ≡ sizeOf chip =
+      eqb-true (length image) (sizeOf chip)
+      (not-false (eqb (length image) (sizeOf chip)) (rw named at (all-passed (identityChecks (plan .chip) image) refl (sym (c .answer)) .1 .0))) in
+      let landed = sym (bus-cut chip (placements chip plan) image (placements-stand chip plan) long count) in
+      let bytes : new ≡ whenKnown (chipOf (plan .chip)) (λ c. played c (take count (scriptOf c plan)) image) image = m .bytes ∙ landed ∙ rw named in
       record {
         answer = ap (λ (k : ℕ). (0, k)) all ∙ told-passed (playChecks plan image) writes none;
         bytes = bytes ∙ when-passed _ image none;

@@ -2,15 +2,20 @@
 -- bus, which does at every stop what writes by position do.
 -- Assumes nothing.
 use Prim.Native.Nat.{ℕ, zero, suc, _≤_}
-use mathlib.Core.Path.{_≡_, refl, sym, ap, subst, _∙_}
-use mathlib.Core.List.{List, [], _∷_, _++_}
+use mathlib.Core.Path.{_≡_, refl, sym, ap, ap₂, subst, _∙_}
+use mathlib.Core.Bool.{So}
+use mathlib.Core.List.{List, [], _∷_, _++_, map}
+use lib.Bits.{bitAnd}
 use lib.ListN.{length, getD, take}
-use lib.Seq.{take-all}
 use Rattle.cards.specs.declared.types.Chip.{Chip}
 use Rattle.cards.specs.declared.types.Shape.{Shape}
 use Rattle.cards.specs.declared.types.Shape.the-variants.{Slope, Steps}
-use Rattle.cards.specs.Rows.{Table, masksIn}
-use Rattle.cards.specs.Cards.{rowOf, sizeOf, tableOf, shapeOf, worth}
+use Rattle.cards.specs.Banks.{asideIn}
+use Rattle.cards.specs.Rows.{every, Table, masksIn, positions}
+use Rattle.cards.specs.Cards.{sheetOf, banksOf, rowOf, sizeOf, tableOf, shapeOf, worth}
+use Rattle.cards.proofs.Every.{both, every-append}
+use Rattle.cards.proofs.Sound.{stands}
+use Rattle.cards.proofs.Tables.{table-stands}
 use Rattle.images.specs.Bytes.{placed}
 use Rattle.images.proofs.Laws.{storedAt-other}
 use Rattle.curves.specs.declared.Plan.{Plan}
@@ -21,8 +26,9 @@ use Rattle.plans.proofs.Laws.{Accepted}
 use Rattle.scripts.specs.Scripts.{Pair, writes, script, placements, scriptOf}
 use Rattle.scripts.specs.Played.{laid, played, stops, touched}
 use Rattle.scripts.specs.Rules.{Outside, Rule}
-use Rattle.scripts.proofs.Bus.{bus-plain, bus-cut, bus-stops, played-length}
+use Rattle.scripts.proofs.Bus.{beside, Same, same-refl, bus-plays, bus-stops, played-length}
 use Rattle.scripts.proofs.Memory.{Memory, puts, AllElsewhere, elsewhere-writes, elsewhere-append}
+use Rattle.scripts.proofs.Prepared.{placements-stand}
 use Rattle.scripts.proofs.Safe.{curveIn, asked, plays, never-slower, ends-planned}
 use Rattle.plays.proofs.Rules.{ruleOf}
 use Rattle.plays.proofs.Played.{whole-take, laid-length, laid-puts, all-front, all-behind, table-apart}
@@ -60,6 +66,21 @@ stops-elsewhere chip q ws (k ∷ ks) image h =
 pub stops-length : (chip : Chip) (ws : List Pair) (cuts image : List ℕ) → length (stops (played chip) ws image cuts) ≡ length image
 stops-length chip ws [] image = refl
 stops-length chip ws (k ∷ ks) image = stops-length chip ws ks (played chip (take k ws) image) ∙ played-length chip (take k ws) image
+
+-- a table holds the same in two images that agree but for what a select changes
+worth-same : (chip : Chip) (x y ps : List ℕ) → Same chip x y → So (every (stands (sheetOf chip)) ps) → map (worth chip x) ps ≡ map (worth chip y) ps
+worth-same chip x y [] s t = refl
+worth-same chip x y (p ∷ ps) s t =
+    let parts = both (stands (sheetOf chip) p) (every (stands (sheetOf chip)) ps) t in
+    ap₂ (λ (v : ℕ) (vs : List ℕ). v ∷ vs)
+    (ap (λ (b : ℕ). bitAnd b (rowOf chip p .writable)) (s .bytes p (beside chip p (parts .0)))) (worth-same chip x y ps s (parts .1))
+
+held-same : (chip : Chip) (table : ℕ) {x y : List ℕ} → Same chip x y → held chip table x ≡ held chip table y
+held-same chip table {x} {y} s =
+    let settings = tableOf chip table .settings in
+    let speeds = tableOf chip table .speeds in
+    let parts = every-append (stands (sheetOf chip)) settings speeds (table-stands chip table) in
+    λ i. record { settings = worth-same chip x y settings s (parts .0) i; speeds = worth-same chip x y speeds s (parts .1) i }
 
 module _ (chip : Chip) (plan : Plan) (accepted : Accepted chip plan) (old : List ℕ) (long : length old ≡ sizeOf chip) where
   abbrev table : Table
@@ -112,18 +133,18 @@ module _ (chip : Chip) (plan : Plan) (accepted : Accepted chip plan) (old : List
   pub asked-at-stop : (cuts : List ℕ) (t : ℕ)
       → AsFast shape (asks shape (held chip (plan .table) (stopped cuts)) t)
       (slower shape (asks shape (held chip (plan .table) old) t) (asks shape curve t))
-  asked-at-stop cuts t = rw (bus-stops chip (placements chip plan) old cuts) (asked-by-position cuts t)
+  asked-at-stop cuts t =
+      let r = bus-stops chip (placements chip plan) (placements-stand chip plan) cuts old old long (same-refl chip old) in
+      rw (held-same chip (plan .table) (r .1)) (asked-by-position (r .0) t)
 
   pub held-at-last : (cuts : List ℕ) (count : ℕ) → length (scriptOf chip plan) ≤ count
       → held chip (plan .table) (played chip (take count (scriptOf chip plan)) (stopped cuts)) ≡ curve
   held-at-last cuts count h =
       let here : length (stopped cuts) ≡ sizeOf chip = stops-length chip (scriptOf chip plan) cuts old ∙ long in
-      let all : length (placements chip plan) ≤ count = subst (λ (ws : List Pair). length ws ≤ count) (bus-plain chip (placements chip plan)) h in
-      ap (held chip (plan .table)) (bus-cut chip (placements chip plan) (stopped cuts) count)
-      ∙ ap (λ (ws : List Pair). held chip (plan .table) (laid chip ws (stopped cuts))) (take-all count (placements chip plan) all)
+      held-same chip (plan .table) (bus-plays chip (placements chip plan) (placements-stand chip plan) (stopped cuts) here count h)
       ∙ ends-by-position (stopped cuts) here
 
-  script-elsewhere : (q : ℕ) → Outside q (touched chip (plan .table)) → AllElsewhere q (placements chip plan)
+  script-elsewhere : (q : ℕ) → Outside q (positions table) → AllElsewhere q (placements chip plan)
   unfolding placements
   script-elsewhere q o =
       let settings = table .settings in
@@ -137,5 +158,7 @@ module _ (chip : Chip) (plan : Plan) (accepted : Accepted chip plan) (old : List
 
   pub kept-outside : (cuts : List ℕ) (q : ℕ) → Outside q (touched chip (plan .table)) → getD (stopped cuts) q 0 ≡ getD old q 0
   kept-outside cuts q o =
-      ap (λ (image : List ℕ). getD image q 0) (bus-stops chip (placements chip plan) old cuts)
-      ∙ stops-elsewhere chip q (placements chip plan) cuts old (script-elsewhere q o)
+      let aside = asideIn (banksOf chip) in
+      let r = bus-stops chip (placements chip plan) (placements-stand chip plan) cuts old old long (same-refl chip old) in
+      r .1 .bytes q (all-front (λ p. p ≡ q → ⊥) aside (positions table) o)
+      ∙ stops-elsewhere chip q (placements chip plan) (r .0) old (script-elsewhere q (all-behind (λ p. p ≡ q → ⊥) aside (positions table) o))

@@ -29,7 +29,7 @@ use Rattle.refusal.specs.declared.Amount.the-variants as amount
 use Rattle.refusal.specs.Answers.{tellsAmount}
 use Rattle.cards.specs.declared.types.Chip.{Chip}
 use Rattle.cards.specs.declared.types.Named.the-variants.{Known}
-use Rattle.cards.specs.Cards.{chipOf, whenKnown, hasTable, shapeOf}
+use Rattle.cards.specs.Cards.{chipOf, whenKnown, hasTable, shapeOf, layoutOf}
 use Rattle.cards.proofs.Numbers.{chip-known}
 use Rattle.curves.specs.declared.Plan.{Plan}
 use Rattle.bodies.specs.Bodies.{decoded}
@@ -69,16 +69,16 @@ whole-body number table bytes h =
 module _ (number table : ℕ) (bytes : List ℕ) (W : WholeBody number table bytes) where
   -- the plan in it
   abbrev pub bodyPlan : Plan
-  bodyPlan = decoded (shapeOf (W .chip) table) number table bytes
+  bodyPlan = decoded (layoutOf (W .chip) table .leading) (shapeOf (W .chip) table) number table bytes
 
   long-enough : ltb (length bytes) (bodyLength (W .chip)) ≡ false
   long-enough = le-ltb (length bytes) (bodyLength (W .chip)) (W .long)
 
   same-chip : chipOf (bodyPlan .chip) ≡ Known (W .chip)
-  same-chip = ap chipOf (decoded-chip (shapeOf (W .chip) table) number table bytes) ∙ W .named
+  same-chip = ap chipOf (decoded-chip (layoutOf (W .chip) table .leading) (shapeOf (W .chip) table) number table bytes) ∙ W .named
 
   same-table : bodyPlan .table ≡ table
-  same-table = decoded-table (shapeOf (W .chip) table) number table bytes
+  same-table = decoded-table (layoutOf (W .chip) table .leading) (shapeOf (W .chip) table) number table bytes
 
   -- no check refuses it, and what is left to check is what its plan is judged by, whatever is checked behind it
   pub whole-passed : first (bodyChecks number table bytes) ≡ 0

@@ -22,11 +22,11 @@ use Rattle.cards.proofs.Tables.{table-laid, table-sized, table-short}
 use Rattle.curves.specs.declared.Plan.{Plan}
 use Rattle.curves.specs.Planned.{planned, temperaturesInOrder, speedsInOrder}
 use Rattle.curves.specs.Values.{Sized}
-use Rattle.bodies.specs.Bodies.{body, ownOf}
+use Rattle.bodies.specs.Bodies.{ownOf}
 use Rattle.bodies.proofs.Laws.{body-length, column-begins, own-chip, own-table, own-curve, own-temperatures, own-speeds}
-use Rattle.plans.specs.Plans.{plannedFor, fits, temperaturesPass, speedsPass}
+use Rattle.plans.specs.Plans.{fits, temperaturesPass, speedsPass}
 use Rattle.plans.specs.Contracts.{planChecks}
-use Rattle.records.specs.Records.{header, bodyLength, recordLength, recordOf, encoded}
+use Rattle.records.specs.Records.{header, bodyLength, recordLength, recordBody, recordOf, encoded}
 
 -- "9 bytes for chip 1, 14 for chip 2"
 pub body-lengths : (bodyLength Nct7802y ≡ 9) × (bodyLength F75373s ≡ 14)
@@ -53,8 +53,8 @@ body-of-shape chip table has =
     sym (ap₂ (λ (m n : ℕ). m + n) (long .0) (long .1)) ∙ body-of-table chip table has
 
 pub body-of-plan : (chip : Chip) (plan : Plan) → Sized plan → hasTable chip (plan .table) ≡ true
-    → length (body (plannedFor chip plan)) ≡ bodyLength chip
-body-of-plan chip plan S has = body-length (shapeOf chip (plan .table)) plan S ∙ body-of-shape chip (plan .table) has
+    → length (recordBody chip plan) ≡ bodyLength chip
+body-of-plan chip plan S has = body-length (layoutOf chip (plan .table) .leading) (shapeOf chip (plan .table)) plan S ∙ body-of-shape chip (plan .table) has
 
 -- and a plan's record has as many as are used of it
 pub record-of-plan : (chip : Chip) (plan : Plan) → Sized plan → hasTable chip (plan .table) ≡ true → length (recordOf chip plan) ≡ recordLength chip
@@ -74,22 +74,22 @@ record-short plan S = by-name (chipOf (plan .chip))
     by-name : (named : Named) → length (whenKnown named (λ chip. recordOf chip plan) []) ≤ 18
     by-name (Known chip) =
         let shape = shapeOf chip (plan .table) in
-        omega (arith, body-length shape plan S, room-short shape)
+        omega (arith, body-length (layoutOf chip (plan .table) .leading) shape plan S, room-short shape)
     by-name Unknown = omega arith
 
 -- its header and its body with zeros behind it begin with it
 pub record-begins : (chip : Chip) (plan : Plan) → Sized plan
-    → take (length (recordOf chip plan)) (header (plan .chip) (plan .table) ++ column 14 (λ k. getD (body (plannedFor chip plan)) k 0))
+    → take (length (recordOf chip plan)) (header (plan .chip) (plan .table) ++ column 14 (λ k. getD (recordBody chip plan) k 0))
     ≡ recordOf chip plan
 record-begins chip plan S =
     let front = header (plan .chip) (plan .table) in
-    let values = body (plannedFor chip plan) in
+    let values = recordBody chip plan in
     let shape = shapeOf chip (plan .table) in
     let long : length (recordOf chip plan) ≡ length front + length values = omega arith in
     let bytes = column 14 (λ k. getD values k 0) in
     ap (λ (n : ℕ). take n (front ++ bytes)) long
     ∙ take-append-add front bytes (length values)
-    ∙ ap (λ (l : List ℕ). front ++ l) (column-begins values 14 (omega (arith, body-length shape plan S, room-short shape)))
+    ∙ ap (λ (l : List ℕ). front ++ l) (column-begins values 14 (omega (arith, body-length (layoutOf chip (plan .table) .leading) shape plan S, room-short shape)))
 
 -- what comes back of a plan is judged as the plan is
 module _ (chip : Chip) (plan : Plan) where

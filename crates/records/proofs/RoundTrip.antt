@@ -16,17 +16,15 @@ use Rattle.refusal.specs.declared.Amount.the-variants as amount
 use Rattle.refusal.proofs.Answers.{tellsAmount-injective}
 use Rattle.cards.specs.declared.types.Chip.{Chip}
 use Rattle.cards.specs.declared.types.Named.the-variants.{Known}
-use Rattle.cards.specs.Cards.{chipOf, whenKnown, shapeOf}
+use Rattle.cards.specs.Cards.{chipOf, whenKnown, shapeOf, layoutOf}
 use Rattle.cards.proofs.Numbers.{chip-known}
 use Rattle.curves.specs.declared.Plan.{Plan}
-use Rattle.curves.specs.Planned.{planned}
-use Rattle.bodies.specs.Bodies.{body, ownOf}
-use Rattle.plans.specs.Plans.{plannedFor}
+use Rattle.bodies.specs.Bodies.{bodyOf, ownOf}
 use Rattle.plans.specs.Contracts.{orderChecks, planChecks}
 use Rattle.plans.proofs.Laws.{passed-plan, accepted-known}
 use Rattle.records.specs.declared.Found.{Found}
 use Rattle.curves.specs.Values.{Sized}
-use Rattle.records.specs.Records.{bodyLength, recordLength, recordOf, encoded, chipNumberIn, tableNumberIn, bodyIn, noPlan, planIn, own}
+use Rattle.records.specs.Records.{bodyLength, recordLength, recordBody, recordOf, encoded, chipNumberIn, tableNumberIn, bodyIn, noPlan, planIn, own}
 use Rattle.records.specs.Contracts.{bodyChecks, bodyPlanChecks, recordChecks, writeChecks, ReadsRecord, WritesRecord}
 use Rattle.bodies.proofs.Laws.{decoded-chip, decoded-table, body-back, encode-decode}
 use Rattle.records.proofs.Answers.{told-of, whole-body, Complete, recordPlan, complete-judged}
@@ -59,15 +57,16 @@ complete-encoded : (bytes : List ℕ) (C : Complete bytes) → ((k : ℕ) → ge
 complete-encoded bytes C small =
     let chip = C .whole .chip in
     let shape = shapeOf chip (tableNumberIn bytes) in
+    let leading = layoutOf chip (tableNumberIn bytes) .leading in
     let plan = recordPlan bytes C in
     let marks = and-eq-true-iff (eqb (getD bytes 0 0) 0x43) (eqb (getD bytes 1 0) 0x50) .0 (not-false _ (C .marked .mark)) in
-    let number = decoded-chip shape (chipNumberIn bytes) (tableNumberIn bytes) (bodyIn bytes) in
-    let table = decoded-table shape (chipNumberIn bytes) (tableNumberIn bytes) (bodyIn bytes) in
+    let number = decoded-chip leading shape (chipNumberIn bytes) (tableNumberIn bytes) (bodyIn bytes) in
+    let table = decoded-table leading shape (chipNumberIn bytes) (tableNumberIn bytes) (bodyIn bytes) in
     let bytes-small : (k : ℕ) → getD (bodyIn bytes) k 0 < 256 = λ k. rw (getD-drop 4 bytes k 0) (small (4 + k)) in
     let size = body-of-shape chip (tableNumberIn bytes) (C .whole .has) in
-    let laid : body (plannedFor chip plan) ≡ take (bodyLength chip) (bodyIn bytes) =
-    ap (λ (t : ℕ). body (planned (shapeOf chip t) plan)) table
-    ∙ encode-decode shape (chipNumberIn bytes) (tableNumberIn bytes) (bodyIn bytes) (omega (arith, size, C .whole .long)) bytes-small
+    let laid : recordBody chip plan ≡ take (bodyLength chip) (bodyIn bytes) =
+    ap (λ (t : ℕ). bodyOf (layoutOf chip t .leading) (shapeOf chip t) plan) table
+    ∙ encode-decode leading shape (chipNumberIn bytes) (tableNumberIn bytes) (bodyIn bytes) (omega (arith, size, C .whole .long)) bytes-small
     ∙ ap (λ (n : ℕ). take n (bodyIn bytes)) size in
     let whole : encoded plan ≡ recordOf chip plan = rw (number, C .whole .named) in
     whole
@@ -134,13 +133,13 @@ record-read chip plan rest q S e accepts R =
     let bytes = recordOf chip plan ++ rest in
     let has = passed-plan chip plan e accepts .has in
     let long : bodyLength chip ≤ length (bodyIn bytes) =
-    omega (arith, body-of-plan chip plan S has, length-append (body (plannedFor chip plan)) rest) in
+    omega (arith, body-of-plan chip plan S has, length-append (recordBody chip plan) rest) in
     let C : Complete bytes =
     record {
       marked = record { long = omega arith; mark = refl };
       whole = record { chip = chip; named = e; has = has; long = long };
     } in
-    let back = body-back (shapeOf chip (plan .table)) plan rest S in
+    let back = body-back (layoutOf chip (plan .table) .leading) (shapeOf chip (plan .table)) plan rest S in
     let none : first (recordChecks bytes) ≡ 0 =
     sym (complete-judged bytes C) ∙ ap (λ (p : Plan). first (planChecks p)) back ∙ own-judged chip plan e ∙ accepts in
     let used-bytes : whenKnown (chipOf (plan .chip)) recordLength 0 ≡ length (recordOf chip plan) = rw e (sym (record-of-plan chip plan S has)) in

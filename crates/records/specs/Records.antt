@@ -5,11 +5,10 @@ use mathlib.Core.List.{List, [], _∷_, _++_}
 use lib.ListN.{length, getD, drop}
 use Rattle.cards.specs.declared.types.Chip.{Chip}
 use Rattle.cards.specs.Rows.{positions}
-use Rattle.cards.specs.Cards.{chipOf, whenKnown, tableOf, shapeOf}
+use Rattle.cards.specs.Cards.{chipOf, whenKnown, tableOf, shapeOf, layoutOf}
 use Rattle.curves.specs.declared.Plan.{Plan}
 use Rattle.curves.specs.Values.{noSlope, noSteps}
-use Rattle.bodies.specs.Bodies.{body, decoded, ownOf}
-use Rattle.plans.specs.Plans.{plannedFor}
+use Rattle.bodies.specs.Bodies.{bodyOf, decoded, ownOf}
 
 -- "a two-byte mark 43h 50h before each plan, chip, table"
 abbrev pub header : ℕ → ℕ → List ℕ
@@ -23,9 +22,13 @@ bodyLength chip = length (positions (tableOf chip 1))
 abbrev pub recordLength : Chip → ℕ
 recordLength chip = 4 + bodyLength chip
 
--- a plan's record: "then the body in the register order"
+-- "then the body in the register order"
+abbrev pub recordBody : Chip → Plan → List ℕ
+recordBody chip plan = bodyOf (layoutOf chip (plan .table) .leading) (shapeOf chip (plan .table)) plan
+
+-- a plan's record
 abbrev pub recordOf : Chip → Plan → List ℕ
-recordOf chip plan = header (plan .chip) (plan .table) ++ body (plannedFor chip plan)
+recordOf chip plan = header (plan .chip) (plan .table) ++ recordBody chip plan
 
 abbrev pub encoded : Plan → List ℕ
 encoded plan = whenKnown (chipOf (plan .chip)) (λ chip. recordOf chip plan) []
@@ -46,7 +49,7 @@ noPlan = record { chip = 0; table = 0; slope = noSlope; steps = noSteps }
 
 -- the plan of a chip, a table and the bytes of a body; bytes behind the body do not matter
 abbrev pub planOf : ℕ → ℕ → List ℕ → Plan
-planOf chip table bytes = whenKnown (chipOf chip) (λ c. decoded (shapeOf c table) chip table bytes) noPlan
+planOf chip table bytes = whenKnown (chipOf chip) (λ c. decoded (layoutOf c table .leading) (shapeOf c table) chip table bytes) noPlan
 
 -- the plan in a record's bytes
 abbrev pub planIn : List ℕ → Plan

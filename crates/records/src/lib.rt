@@ -117,7 +117,7 @@ pub fn plan_from(chip: u8, table: u8, bytes: &[u8]) -> Found
     let shape = layout.shape;
     Found {
         answer: Amount::Of(length),
-        plan: bodies::plan_of(shape, chip, table, body_in(shape, bytes)),
+        plan: bodies::plan_of(shape, layout.leading, chip, table, body_in(shape, bytes)),
     }
 }
 
@@ -186,7 +186,11 @@ fn put(chip: Chip, plan: Plan, out: &mut [u8]) -> Amount
         return Amount::Refused(Refusal::OutputTooShort);
     }
     let shape = layout.shape;
-    let bytes = record_of(plan.chip, plan.table, bodies::body_of(shape, plan));
+    let bytes = record_of(
+        plan.chip,
+        plan.table,
+        bodies::body_of(shape, layout.leading, plan),
+    );
     for at in 0..length {
         out[at] = bytes[at];
     }

@@ -5,10 +5,10 @@ use native.Mathlib.Nat.{min-eq-left, min-eq-right, min-le-right}
 use native.Mathlib.Omega.{arith}
 use mathlib.Core.Path.{_≡_, refl, sym, ap, ap₂, _∙_}
 use mathlib.Core.Bool.{Bool, true, false, So, cond}
-use mathlib.Core.List.{List, _++_}
+use mathlib.Core.List.{List, _++_, map}
 use borrow.Author.Tests.{leb-true, leb-false}
 use lib.Dec.{eqb, leb}
-use lib.ListN.{length, take, drop}
+use lib.ListN.{length, take, drop, length-map}
 use lib.Seq.{take-all}
 use Rattle.refusal.specs.declared.Refusal.{Refusal}
 use Rattle.refusal.specs.Refusals.{numberOf}
@@ -22,11 +22,11 @@ use Rattle.curves.specs.declared.Plan.{Plan}
 use Rattle.curves.specs.Values.{Sized}
 use Rattle.plans.specs.Contracts.{planChecks}
 use Rattle.scripts.specs.declared.making.Load.{Load}
-use Rattle.scripts.specs.Scripts.{Pair, flat, scriptOf, scriptFor}
-use Rattle.scripts.specs.Played.{played}
+use Rattle.scripts.specs.Scripts.{Pair, placements, routed, addressed, bus, flat, scriptOf, scriptFor}
+use Rattle.scripts.specs.Played.{laid}
 use Rattle.scripts.specs.Contracts.{scriptChecks, Scripts, Makes}
 use Rattle.scripts.specs.Making.{writesOf, pairsOf, madeOf, loadOf, bytesOf, PutsPairs}
-use Rattle.scripts.proofs.Turns.{pairs-length}
+use Rattle.scripts.proofs.Walk.{pairs-length}
 use Rattle.scripts.proofs.Prepared.{load-writes, load-makes}
 
 -- a refusal by the first checks is one by all of them
@@ -50,18 +50,20 @@ module _ (plan : Plan) (out : List ℕ) where
       let all = still-refused r (planChecks plan) (roomChecks (2 * length pairs) out) e in
       record { answer = told-refused r (scriptChecks plan out) (length pairs) all; bytes = when-refused r _ out all }
 
-  pub script-put : {l : Load} {bytes new : List ℕ} {r : Amount} → first (planChecks plan) ≡ 0 → pairsOf l bytes (writesOf l) ≡ pairs
+  pub script-put : {l : Load} {bytes new : List ℕ} {r : Amount} → first (planChecks plan) ≡ 0
+      → map addressed (pairsOf l bytes (writesOf l)) ≡ pairs
       → PutsPairs l bytes out r new
       → Scripts plan out r new
   script-put {l} {bytes} {new} {r} e whole p =
-      let writes : writesOf l ≡ length pairs = sym (pairs-length l bytes (writesOf l)) ∙ ap length whole in
+      let writes : writesOf l ≡ length pairs =
+      sym (pairs-length l bytes (writesOf l)) ∙ sym (length-map (pairsOf l bytes (writesOf l)) addressed) ∙ ap length whole in
       let checks : first (roomChecks (2 * writesOf l) out) ≡ first (scriptChecks plan out) =
       ap (λ (n : ℕ). first (roomChecks (2 * n) out)) writes ∙ sym (first-passed (planChecks plan) (roomChecks (2 * length pairs) out) refl e) in
       record {
         answer = p .answer ∙ ap₂ (λ (n w : ℕ). (n, cond (eqb n 0) w 0)) checks writes;
         bytes =
             p .pairs
-            ∙ ap₂ (λ (n w : ℕ). cond (eqb n 0) (flat (pairsOf l bytes (writesOf l)) ++ drop (2 * w) out) out) checks writes
+            ∙ ap₂ (λ (n w : ℕ). cond (eqb n 0) (flat (map addressed (pairsOf l bytes (writesOf l))) ++ drop (2 * w) out) out) checks writes
             ∙ ap (λ (ws : List Pair). left (scriptChecks plan out) (flat ws ++ drop (2 * length pairs) out) out) whole;
       }
 
@@ -78,14 +80,17 @@ take-least count ws = by-size (leb count (length ws)) refl
 -- as many writes as are asked for, or all
 pub made-script : (chip : Chip) (plan : Plan) (count : ℕ) {n w : ℕ} {old new : List ℕ} → Sized plan → w ≡ writesOf (loadOf chip plan) → n ≡ min count w
     → new ≡ madeOf (loadOf chip plan) (bytesOf chip plan) n old → Makes chip plan count old n new
+unfolding bus
 made-script chip plan count {n} {w} {old} sized e q m =
-    let all : n ≡ min count (length (scriptOf chip plan)) = q ∙ ap (min count) (e ∙ load-writes chip plan sized) in
+    let ws = routed chip (placements chip plan) in
+    let long : writesOf (loadOf chip plan) ≡ length (scriptOf chip plan) = load-writes chip plan sized in
+    let all : n ≡ min count (length (scriptOf chip plan)) = q ∙ ap (min count) (e ∙ long) in
     let some : n ≤ writesOf (loadOf chip plan) = rw (q ∙ ap (min count) e) (min-le-right count (writesOf (loadOf chip plan))) in
     record {
       answer = all;
       bytes =
           m
           ∙ load-makes chip plan sized n some old
-          ∙ ap (λ (k : ℕ). played chip (take k (scriptOf chip plan)) old) all
-          ∙ ap (λ (ws : List Pair). played chip ws old) (take-least count (scriptOf chip plan));
+          ∙ ap (λ (k : ℕ). laid chip (take k ws) old) (all ∙ ap (min count) (length-map ws addressed))
+          ∙ ap (λ (us : List Pair). laid chip us old) (take-least count ws);
     }

@@ -2,29 +2,29 @@
 -- Assumes nothing.
 use Prim.Native.Nat.{ℕ, _+_, _≤_}
 use native.Mathlib.Omega.{arith}
-use mathlib.Core.Path.{_≡_, refl, sym, ap, ap₂, _∙_}
+use mathlib.Core.Path.{_≡_, refl, sym, ap, _∙_}
 use mathlib.Core.Bool.{So}
-use mathlib.Core.List.{List, [], _∷_, _++_}
+use mathlib.Core.List.{List, [], _∷_, _++_, map}
 use borrow.Author.Tests.{not-false}
-use lib.ListN.{length, length-append}
+use lib.ListN.{length, length-append, length-map}
 use Rattle.refusal.specs.Checks.{first}
 use Rattle.refusal.specs.declared.Amount.the-variants as amount
 use Rattle.refusal.proofs.Passed.{all-passed, when-passed}
 use Rattle.cards.specs.declared.types.Chip.{Chip}
 use Rattle.cards.specs.declared.types.Chip.the-variants.{Nct7802y, F75373s}
 use Rattle.cards.specs.declared.types.Named.the-variants.{Known}
-use Rattle.cards.specs.declared.types.Layout.{Layout}
-use Rattle.cards.specs.Sheets.{room}
-use Rattle.cards.specs.Cards.{sheetOf, chipOf, hasTable, tableOf, shapeOf}
-use Rattle.cards.proofs.Tables.{table-laid, table-sized, table-short}
+use Rattle.cards.specs.Banks.{noBank}
+use Rattle.cards.specs.Cards.{sheetOf, chipOf, banksOf, hasTable, tableOf, shapeOf, layoutOf}
+use Rattle.cards.proofs.Selectors.{selects-most}
+use Rattle.cards.proofs.Tables.{table-laid, table-short}
 use Rattle.curves.specs.declared.Plan.{Plan}
 use Rattle.curves.specs.Orders.{fulls}
 use Rattle.curves.specs.Planned.{fullOf}
 use Rattle.curves.specs.Values.{Sized}
 use Rattle.plans.specs.Plans.{plannedFor}
-use Rattle.scripts.specs.Scripts.{writes, placements, scriptOf, scriptLength, scriptFor}
+use Rattle.scripts.specs.Scripts.{writes, placements, scriptOf, writesIn, scriptLength, scriptFor}
 use Rattle.scripts.specs.Contracts.{scriptChecks, Scripts}
-use Rattle.scripts.proofs.Bus.{bus-plain}
+use Rattle.scripts.proofs.Bus.{bus-length}
 use Rattle.scripts.proofs.Prepared.{load-writes}
 
 -- "13 writes", "24 writes"
@@ -32,17 +32,13 @@ pub script-lengths : (scriptLength Nct7802y ≡ 13) × (scriptLength F75373s ≡
 unfolding sheetOf
 script-lengths = (refl, refl)
 
--- as many as a plan's script has
-pub script-of-plan : (chip : Chip) (plan : Plan) → Sized plan → So (hasTable chip (plan .table)) → length (scriptOf chip plan) ≡ scriptLength chip
-script-of-plan chip plan sized has =
-    sym (load-writes chip plan sized) ∙ ap (λ (l : Layout). l .speeds + (l .settings + l .speeds)) (table-laid chip (plan .table) has)
+-- as many as a plan's script has, by its table ..
+pub script-of-table : (chip : Chip) (plan : Plan) → Sized plan → length (scriptOf chip plan) ≡ writesIn (layoutOf chip (plan .table))
+script-of-table chip plan sized = sym (load-writes chip plan sized)
 
--- which its table's shape says
-pub script-of-shape : (chip : Chip) (plan : Plan) → Sized plan → So (hasTable chip (plan .table))
-    → length (scriptOf chip plan) ≡ room (shapeOf chip (plan .table)) .1 + (room (shapeOf chip (plan .table)) .0 + room (shapeOf chip (plan .table)) .1)
-script-of-shape chip plan sized has =
-    let long = table-sized chip (plan .table) has in
-    sym (load-writes chip plan sized) ∙ ap₂ (λ (s v : ℕ). v + (s + v)) (long .0) (long .1)
+-- .. and so by its chip
+pub script-of-plan : (chip : Chip) (plan : Plan) → Sized plan → So (hasTable chip (plan .table)) → length (scriptOf chip plan) ≡ scriptLength chip
+script-of-plan chip plan sized has = script-of-table chip plan sized ∙ ap writesIn (table-laid chip (plan .table) has)
 
 -- "The answer says how many writes."
 pub script-counts : {plan : Plan} {out new : List ℕ} {n : ℕ} (chip : Chip) → chipOf (plan .chip) ≡ Known chip → Sized plan
@@ -59,17 +55,15 @@ writes-short [] bytes = omega arith
 writes-short (r ∷ rs) [] = omega arith
 writes-short (r ∷ rs) (b ∷ bs) = omega (arith, writes-short rs bs)
 
--- so no script has more than 28, whatever its plan holds
-pub script-short : (chip : Chip) (plan : Plan) → length (scriptOf chip plan) ≤ 28
+placements-short : (chip : Chip) (plan : Plan) → length (placements chip plan) ≤ 28
 unfolding placements
-script-short chip plan =
+placements-short chip plan =
     let settings = tableOf chip (plan .table) .settings in
     let speeds = tableOf chip (plan .table) .speeds in
     let full = fulls (fullOf (shapeOf chip (plan .table))) speeds in
     let curve = plannedFor chip plan in
     omega (
       arith,
-      ap length (bus-plain chip (placements chip plan)),
       length-append (writes speeds full) (writes settings (curve .settings) ++ writes speeds (curve .speeds)),
       length-append (writes settings (curve .settings)) (writes speeds (curve .speeds)),
       writes-short speeds full,
@@ -77,4 +71,15 @@ script-short chip plan =
       writes-short speeds (curve .speeds),
       table-short chip (plan .table),
       length-append settings speeds,
+    )
+
+-- so no script has more than 56, whatever its plan holds: a select for each at the most
+pub script-short : (chip : Chip) (plan : Plan) → length (scriptOf chip plan) ≤ 56
+script-short chip plan =
+    omega (
+      arith,
+      placements-short chip plan,
+      bus-length chip (placements chip plan),
+      selects-most (banksOf chip) noBank (map (λ w. w .0) (placements chip plan)),
+      length-map (placements chip plan) (λ w. w .0),
     )

@@ -2,6 +2,7 @@ pub mod Memory
 pub mod Safe
 pub mod Bus
 pub mod Pairs
+pub mod Walk
 pub mod Turns
 pub mod Prepared
 pub mod Lengths

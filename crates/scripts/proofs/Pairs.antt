@@ -5,10 +5,11 @@ use Prim.Native.Nat.{ℕ, zero, suc, _+_, _<_}
 use native.Mathlib.Nat.{suc-inj, le-of-suc-le-suc, not-suc-le-zero}
 use native.Mathlib.Omega.{arith}
 use mathlib.Core.Path.{_≡_, refl, sym, ap, ap₂, _∙_}
-use mathlib.Core.List.{List, [], _∷_, _++_}
+use mathlib.Core.List.{List, [], _∷_, _++_, map}
 use lib.ListN.{length, getD, length-append, length-replicate, getD-replicate, List·getD-append}
 use lib.Seq.{getD-append-add}
 use Rattle.cards.specs.Rows.{Table, positions}
+use Rattle.cards.specs.Sheets.{loaded}
 use Rattle.curves.specs.Orders.{fulls}
 use Rattle.curves.specs.Planned.{Curve}
 use Rattle.bodies.specs.Bodies.{body}
@@ -21,6 +22,15 @@ writes-length : (ps bs : List ℕ) → length ps ≡ length bs → length (write
 writes-length [] bs e = refl
 writes-length (p ∷ ps) [] e = sym e
 writes-length (p ∷ ps) (b ∷ bs) e = ap suc (writes-length ps bs (suc-inj e))
+
+writes-registers : (ps bs : List ℕ) → length ps ≡ length bs → map (λ w. w .0) (writes ps bs) ≡ ps
+writes-registers [] bs e = refl
+writes-registers (p ∷ ps) [] e = cc
+writes-registers (p ∷ ps) (b ∷ bs) e = ap (λ (l : List ℕ). p ∷ l) (writes-registers ps bs (suc-inj e))
+
+map-append : (xs ys : List Pair) → map (λ w. w .0) (xs ++ ys) ≡ map (λ w. w .0) xs ++ map (λ w. w .0) ys
+map-append [] ys = refl
+map-append (x ∷ xs) ys = ap (λ (l : List ℕ). x .0 ∷ l) (map-append xs ys)
 
 writes-append : (ps qs bs cs : List ℕ) → length ps ≡ length bs → writes (ps ++ qs) (bs ++ cs) ≡ writes ps bs ++ writes qs cs
 writes-append [] qs [] cs e = refl
@@ -58,6 +68,15 @@ module _ (full : ℕ) (table : Table) (curve : Curve)
   script-length =
       ap length script-parts ∙ length-append raises rest
       ∙ ap₂ _+_ raises-length (writes-length (positions table) (body curve) as-long ∙ length-append (table .settings) (table .speeds))
+
+  -- the registers that it writes to
+  pub script-registers : map (λ w. w .0) (script full table curve) ≡ loaded table
+  script-registers =
+      map-append (writes (table .speeds) (fulls full (table .speeds))) (writes (table .settings) (curve .settings) ++ writes (table .speeds) (curve .speeds))
+      ∙ ap₂ (λ (xs ys : List ℕ). xs ++ ys)
+      (writes-registers (table .speeds) (fulls full (table .speeds)) (sym (length-replicate (length (table .speeds)) full)))
+      (map-append (writes (table .settings) (curve .settings)) (writes (table .speeds) (curve .speeds))
+      ∙ ap₂ (λ (xs ys : List ℕ). xs ++ ys) (writes-registers (table .settings) (curve .settings) es) (writes-registers (table .speeds) (curve .speeds) ev))
 
   pub raised-at : (k : ℕ) → k < length (table .speeds)
       → getD (script full table curve) k nothing ≡ (getD (positions table) (length (table .settings) + k) 0, full)

@@ -10,8 +10,8 @@ use Rattle.refusal.specs.Checks.{Check, told, left, roomChecks}
 use Rattle.cards.specs.declared.types.Chip.{Chip}
 use Rattle.curves.specs.declared.Plan.{Plan}
 use Rattle.plans.specs.Contracts.{planChecks}
-use Rattle.scripts.specs.Scripts.{flat, scriptOf, scriptFor}
-use Rattle.scripts.specs.Played.{played}
+use Rattle.scripts.specs.Scripts.{placements, routed, flat, scriptOf, scriptFor}
+use Rattle.scripts.specs.Played.{laid}
 
 -- "Writing .. a script checks the plan by 3, 4, 6, 7 and then 9"
 abbrev pub scriptChecks : Plan → List ℕ → List Check
@@ -28,7 +28,7 @@ abbrev pub Scripts : Plan → List ℕ → Amount → List ℕ → Type 0
 Scripts plan old r new = ScriptsBy (scriptChecks plan old) plan old r new
 
 -- what `scripts::make` promises, which checks nothing: the first writes of a plan's script, as many as `count` says, "a number above the script's
--- length means all", made on an image of any length
+-- length means all", made on an image of any length, each at the position of its register
 pub record Makes (chip : Chip) (plan : Plan) (count : ℕ) (old : List ℕ) (r : ℕ) (new : List ℕ) : Type 0 where
   pub answer : r ≡ min count (length (scriptOf chip plan))
-  pub bytes : new ≡ played chip (take count (scriptOf chip plan)) old
+  pub bytes : new ≡ laid chip (take count (routed chip (placements chip plan))) old

@@ -1,40 +1,73 @@
 -- The contracts of the parts of `scripts`: how a plan's body, in register order behind the raised speeds, makes its writes.
 -- Assumes nothing.
-use Prim.Native.Nat.{ℕ, zero, suc, _+_, _-_, _*_, _≤_}
+use Prim.Native.Nat.{ℕ, zero, suc, _+_, _-_, _*_, _/_, _≤_, _<_}
 use mathlib.Core.Path.{_≡_}
-use mathlib.Core.Bool.{cond}
-use mathlib.Core.List.{List, [], _∷_, _++_}
+use mathlib.Core.Bool.{Bool, cond}
+use mathlib.Core.List.{List, [], _∷_, _++_, map}
 use lib.Dec.{ltb}
 use lib.ListN.{length, getD, drop}
 use Rattle.refusal.specs.declared.Amount.{Amount}
 use Rattle.refusal.specs.Answers.{tellsAmount}
 use Rattle.refusal.specs.Checks.{told, left, roomChecks}
 use Rattle.cards.specs.declared.types.Chip.{Chip}
+use Rattle.cards.specs.declared.types.Register.{Register}
+use Rattle.cards.specs.Banks.{noBank, ready}
 use Rattle.cards.specs.Rows.{column}
-use Rattle.cards.specs.Sheets.{registerIn}
-use Rattle.cards.specs.Cards.{sheetOf, tableOf, shapeOf}
+use Rattle.cards.specs.Sheets.{registerIn, selectorIn}
+use Rattle.cards.specs.Cards.{sheetOf, tableOf, shapeOf, layoutOf}
 use Rattle.images.specs.Bytes.{storedAt}
 use Rattle.curves.specs.declared.Plan.{Plan}
 use Rattle.curves.specs.Planned.{fullOf}
 use Rattle.bodies.specs.Bodies.{body}
 use Rattle.plans.specs.Plans.{plannedFor}
+use Rattle.scripts.specs.declared.making.Cursor.{Cursor}
 use Rattle.scripts.specs.declared.making.Load.{Load}
 use Rattle.scripts.specs.declared.making.Write.{Write}
-use Rattle.scripts.specs.Scripts.{Pair, flat}
+use Rattle.scripts.specs.Scripts.{Pair, addressed, flat}
 
--- how many writes there are: the speeds raised, then every register
+-- how many registers are written: the speeds raised, then all of them ..
+abbrev pub registersOf : Load → ℕ
+registersOf l = l .speeds + (l .settings + l .speeds)
+
+-- .. and how many writes there are, with the selects
 abbrev pub writesOf : Load → ℕ
-writesOf l = l .speeds + (l .settings + l .speeds)
+writesOf l = l .selects + registersOf l
 
--- the k-th write: which of the table's registers it goes to, with what byte
+-- the k-th register written: which of the table's it is, with what byte
 unfoldable pub placeAt : Load → ℕ → ℕ
 placeAt l k = cond (ltb k (l .speeds)) (l .settings + k) (k - l .speeds)
 
 unfoldable pub byteAt : Load → List ℕ → ℕ → ℕ
 byteAt l bytes k = cond (ltb k (l .speeds)) (l .full) (getD bytes (k - l .speeds) 0)
 
+abbrev pub registerOf : Load → ℕ → Register
+registerOf l k = registerIn (sheetOf (l .chip)) (l .table) (placeAt l k)
+
+abbrev pub bankOf : Load → ℕ → ℕ
+bankOf l k = registerOf l k .position / 256
+
+-- between two writes: the next register's, or a select of its bank before it
+abbrev pub readyAt : Load → Cursor → Bool
+readyAt l c = ready (l .selector .bits) (c .bank) (registerOf l (c .next) .position)
+
+abbrev pub stepped : Load → Cursor → Cursor
+stepped l c = record { next = cond (readyAt l c) (c .next + 1) (c .next); bank = bankOf l (c .next) }
+
+abbrev pub writeFrom : Load → List ℕ → Cursor → Write
+writeFrom l bytes c =
+    cond (readyAt l c) (record { register = registerOf l (c .next); byte = byteAt l bytes (c .next) })
+    (record { register = l .selector .register; byte = bankOf l (c .next) })
+
+-- before the first write no bank is known to be selected
+abbrev pub start : Cursor
+start = record { next = 0; bank = noBank }
+
+abbrev pub cursorAt : Load → ℕ → Cursor
+cursorAt l zero = start
+cursorAt l (suc n) = stepped l (cursorAt l n)
+
 abbrev pub writeAt : Load → List ℕ → ℕ → Write
-writeAt l bytes k = record { register = registerIn (sheetOf (l .chip)) (l .table) (placeAt l k); byte = byteAt l bytes k }
+writeAt l bytes k = writeFrom l bytes (cursorAt l k)
 
 -- the first n pairs of position and byte
 abbrev pub pairsOf : Load → List ℕ → ℕ → List Pair
@@ -48,9 +81,11 @@ madeOf l bytes (suc n) image =
     let write = writeAt l bytes n in
     storedAt (write .register .masks) (write .register .position) (write .byte) (madeOf l bytes n image)
 
--- no more registers than the longest body has bytes
+-- no more registers than the longest body has bytes, and as many selects as come between them
 pub record Short (l : Load) : Type 0 where
   pub registers : l .settings + l .speeds ≤ 14
+  pub selects : l .selects ≤ 28
+  pub turns : (n : ℕ) → n < writesOf l → cursorAt l n .next < registersOf l
 
 -- a plan's table of a chip ..
 abbrev pub loadOf : Chip → Plan → Load
@@ -61,6 +96,8 @@ loadOf chip plan =
       settings = length (tableOf chip (plan .table) .settings);
       speeds = length (tableOf chip (plan .table) .speeds);
       full = fullOf (shapeOf chip (plan .table));
+      selector = selectorIn (sheetOf chip);
+      selects = layoutOf chip (plan .table) .selects;
     }
 
 -- .. and the bytes that go there, with zeros behind them
@@ -70,4 +107,4 @@ bytesOf chip plan = column 14 (λ k. getD (body (plannedFor chip plan)) k 0)
 -- all pairs at the front of a buffer, or none
 pub record PutsPairs (l : Load) (bytes old : List ℕ) (r : Amount) (new : List ℕ) : Type 0 where
   pub answer : tellsAmount r ≡ told (roomChecks (2 * writesOf l) old) (writesOf l)
-  pub pairs : new ≡ left (roomChecks (2 * writesOf l) old) (flat (pairsOf l bytes (writesOf l)) ++ drop (2 * writesOf l) old) old
+  pub pairs : new ≡ left (roomChecks (2 * writesOf l) old) (flat (map addressed (pairsOf l bytes (writesOf l))) ++ drop (2 * writesOf l) old) old

@@ -1,11 +1,12 @@
 -- Byte writes made on an image one after the other, by position and on the bus; and stops: writes cut after some number of them and begun again.
 -- Assumes nothing.
 use Prim.Native.Nat.{ℕ}
-use mathlib.Core.List.{List, [], _∷_}
+use mathlib.Core.List.{List, [], _∷_, _++_}
 use lib.ListN.{take}
 use Rattle.cards.specs.declared.types.Chip.{Chip}
+use Rattle.cards.specs.Banks.{asideIn}
 use Rattle.cards.specs.Rows.{positions}
-use Rattle.cards.specs.Cards.{tableOf}
+use Rattle.cards.specs.Cards.{banksOf, tableOf}
 use Rattle.images.specs.Bytes.{placed, written}
 use Rattle.scripts.specs.Scripts.{Pair}
 
@@ -24,6 +25,6 @@ abbrev pub stops : (List Pair → List ℕ → List ℕ) → List Pair → List 
 stops play ws image [] = image
 stops play ws image (k ∷ ks) = stops play ws (play (take k ws) image) ks
 
--- the positions that a play of a table's script may change
+-- the positions that a play of a table's script may change: the table's, and the bank select register where there is one
 abbrev pub touched : Chip → ℕ → List ℕ
-touched chip table = positions (tableOf chip table)
+touched chip table = asideIn (banksOf chip) ++ positions (tableOf chip table)

@@ -1,11 +1,14 @@
 -- "Plan record and script": a plan's byte writes.
 -- Assumes nothing.
-use Prim.Native.Nat.{ℕ, zero, suc, _+_, _*_}
-use mathlib.Core.List.{List, [], _∷_, _++_}
-use lib.ListN.{length, getD}
+use Prim.Native.Nat.{ℕ, zero, suc, _+_, _*_, _/_, _%_}
+use mathlib.Core.Bool.{cond}
+use mathlib.Core.List.{List, [], _∷_, _++_, map}
+use lib.ListN.{getD}
 use Rattle.cards.specs.declared.types.Chip.{Chip}
+use Rattle.cards.specs.declared.types.Layout.{Layout}
+use Rattle.cards.specs.Banks.{Banks, noBank, ready}
 use Rattle.cards.specs.Rows.{Table}
-use Rattle.cards.specs.Cards.{chipOf, whenKnown, tableOf, shapeOf}
+use Rattle.cards.specs.Cards.{chipOf, whenKnown, banksOf, tableOf, shapeOf, layoutOf}
 use Rattle.curves.specs.declared.Plan.{Plan}
 use Rattle.curves.specs.Curves.{paired}
 use Rattle.curves.specs.Orders.{fulls}
@@ -31,16 +34,34 @@ script full table curve =
 unfoldable pub placements : Chip → Plan → List Pair
 placements chip plan = script (fullOf (shapeOf chip (plan .table))) (tableOf chip (plan .table)) (plannedFor chip plan)
 
--- .. and as the bus carries them: the address of a register is its position
+-- .. with a select of the bank "before the first write and again wherever the next register lies in another bank": "a script writes the bank's
+-- number there, all other bits zero" ..
+abbrev pub routedFrom : Banks → ℕ → List Pair → List Pair
+routedFrom banks bank [] = []
+routedFrom banks bank (w ∷ ws) =
+    let rest = routedFrom banks (w .0 / 256) ws in
+    cond (ready (banks .bits) bank (w .0)) (w ∷ rest) ((banks .select, w .0 / 256) ∷ (w ∷ rest))
+
+unfoldable pub routed : Chip → List Pair → List Pair
+routed chip ws = routedFrom (banksOf chip) noBank ws
+
+-- .. and as the bus carries them: a register's address is its place in its bank's page
+abbrev pub addressed : Pair → Pair
+addressed w = (w .0 % 256, w .1)
+
 unfoldable pub bus : Chip → List Pair → List Pair
-bus chip ws = ws
+bus chip ws = map addressed (routed chip ws)
 
 abbrev pub scriptOf : Chip → Plan → List Pair
 scriptOf chip plan = bus chip (placements chip plan)
 
--- "13 writes"; "24 writes": one for each speed, then one for each register
+-- how many writes there are: one for each speed, then one for each register, and the selects
+abbrev pub writesIn : Layout → ℕ
+writesIn layout = layout .selects + (layout .speeds + (layout .settings + layout .speeds))
+
+-- "13 writes"; "24 writes": a chip's tables are alike
 abbrev pub scriptLength : Chip → ℕ
-scriptLength chip = length (tableOf chip 1 .speeds) + (length (tableOf chip 1 .settings) + length (tableOf chip 1 .speeds))
+scriptLength chip = writesIn (layoutOf chip 1)
 
 -- the script's bytes, address first
 abbrev pub flat : List Pair → List ℕ

@@ -1,20 +1,26 @@
-// What a script is made from. One rule serves every chip: raise the speeds, then write the body in register order.
+// What a script is made from. One rule serves every chip: raise the speeds, then write the body in register order, and select a bank before the first
+// write and wherever the next register lies in another bank.
 use bodies::LONGEST;
 use cards::Chip;
 use cards::Register;
+use cards::Selector;
 use curves::Plan;
 ghost use Prim.Native.Nat.{_<_};
 ghost use mathlib.Core.Path.{_≡_};
+ghost use mathlib.Core.Bool.{true, cond};
+ghost use lib.Dec.{eqb};
 ghost use lib.ListN.{length};
-ghost use Rattle.scripts.specs.Making.{Short, writesOf, placeAt, byteAt, writeAt, loadOf, bytesOf};
+ghost use Rattle.scripts.specs.Making.{Short, registersOf, writesOf, placeAt, byteAt, stepped, writeFrom, loadOf, bytesOf};
 
-// A fan table that is loaded: its chip and number, how many settings and speeds it has, and the full byte.
+// A fan table that is loaded: its chip and number, how many settings and speeds it has, the full byte, and the selects.
 pub struct Load {
     pub chip: Chip,
     pub table: u8,
     pub settings: usize,
     pub speeds: usize,
     pub full: u8,
+    pub selector: Selector,
+    pub selects: usize,
 }
 
 // A byte to a register.
@@ -23,16 +29,31 @@ pub struct Write {
     pub byte: u8,
 }
 
+// Between two writes: which register is next, and which bank is selected.
+pub struct Cursor {
+    pub next: usize,
+    pub bank: usize,
+}
+
+// What is selected before the first write is not known.
+pub(crate) const START: Cursor = Cursor { next: 0, bank: 256 };
+
+// A write, and the cursor behind it.
+pub(crate) struct Turn {
+    pub write: Write,
+    pub cursor: Cursor,
+}
+
 impl Load {
     // How many writes there are.
     pub(crate) fn length(self) -> usize
         requires { ⌜ Short self ⌝ }
         ensures { λ r. ⌜ r ≡ writesOf self ⌝ }
     {
-        self.speeds + (self.settings + self.speeds)
+        self.selects + (self.speeds + (self.settings + self.speeds))
     }
 
-    // The table's register that the k-th write goes to, by its place: the raised speeds, then all of them.
+    // The table's register that is written k-th, by its place: the raised speeds, then all of them.
     fn place(self, k: usize) -> usize
         requires { ⌜ Short self ⌝ }
         ensures { λ r. ⌜ r ≡ placeAt self k ⌝ }
@@ -43,11 +64,11 @@ impl Load {
         k - self.speeds
     }
 
-    // The byte of the k-th write, from a plan's body.
+    // The byte that it takes, from a plan's body.
     fn byte(self, body: &[u8], k: usize) -> u8
         requires { ⌜ Short self ⌝ }
         requires { ⌜ length (now body) ≡ 14 ⌝ }
-        requires { ⌜ k < writesOf self ⌝ }
+        requires { ⌜ k < registersOf self ⌝ }
         ensures { λ r. ⌜ r ≡ byteAt self (now (body .entry)) k ⌝ }
     {
         if k < self.speeds {
@@ -56,19 +77,49 @@ impl Load {
         body[k - self.speeds]
     }
 
-    // The k-th write.
-    pub(crate) fn write(self, body: &[u8], k: usize) -> Write
+    // The next write: the next register's, or a select of its bank before it.
+    pub(crate) fn turn(self, body: &[u8], cursor: Cursor) -> Turn
         requires { ⌜ Short self ⌝ }
         requires { ⌜ length (now body) ≡ 14 ⌝ }
-        requires { ⌜ k < writesOf self ⌝ }
-        ensures { λ r. ⌜ r ≡ writeAt self (now (body .entry)) k ⌝ }
+        requires { ⌜ cursor .next < registersOf self ⌝ }
+        ensures { λ r. ⌜ (r .write ≡ writeFrom self (now (body .entry)) cursor) × (r .cursor ≡ stepped self cursor) ⌝ }
     {
         let chip = self.chip;
-        Write {
-            register: cards::register_of(chip, self.table, self.place(k)),
-            byte: self.byte(body, k),
+        let next = cursor.next;
+        let register = cards::register_of(chip, self.table, self.place(next));
+        let bank = register.position / 256;
+        let selector = self.selector;
+        if is_ready(selector.bits, cursor.bank, bank) {
+            return Turn {
+                write: Write {
+                    register,
+                    byte: self.byte(body, next),
+                },
+                cursor: Cursor {
+                    next: next + 1,
+                    bank,
+                },
+            };
+        }
+        let select = selector.register;
+        Turn {
+            write: Write {
+                register: select,
+                byte: bank as u8,
+            },
+            cursor: Cursor { next, bank },
         }
     }
+}
+
+// Whether a bank's registers are reached without a select: no bit says a bank, or it is the one selected.
+fn is_ready(bits: u8, selected: usize, bank: usize) -> bool
+    ensures { λ r. ⌜ r ≡ cond (eqb bits 0) true (eqb selected bank) ⌝ }
+{
+    if bits == 0 {
+        return true;
+    }
+    selected == bank
 }
 
 // A plan's table of a chip; where the chip has no such table, one without a register.
@@ -83,6 +134,8 @@ pub(crate) fn load_of(chip: Chip, plan: Plan) -> Load
         settings: layout.settings,
         speeds: layout.speeds,
         full: curves::full_of(shape),
+        selector: cards::selector_of(chip),
+        selects: layout.selects,
     }
 }
 
@@ -92,5 +145,5 @@ pub(crate) fn bytes_of(chip: Chip, plan: Plan) -> [u8; LONGEST]
 {
     let layout = cards::layout_of(chip, plan.table);
     let shape = layout.shape;
-    bodies::body_of(shape, plan)
+    bodies::body_of(shape, false, plan)
 }

@@ -1,5 +1,6 @@
 // A script's writes on a lent image, register by register.
 use crate::making::Load;
+use crate::making::START;
 ghost use Prim.Native.Nat.{_≤_, min};
 ghost use mathlib.Core.Path.{_≡_};
 ghost use lib.ListN.{length};
@@ -17,8 +18,11 @@ pub(crate) fn make_all(load: Load, body: &[u8], writes: usize, image: &mut [u8])
     requires { ⌜ writes ≤ writesOf load ⌝ }
     ensures { λ r. ⌜ now (image .exit) ≡ madeOf load (now (body .entry)) writes (now (image .entry)) ⌝ }
 {
+    let mut cursor = START;
     for k in 0..writes {
-        let write = load.write(body, k);
+        let turn = load.turn(body, cursor);
+        let write = turn.write;
         images::place(image, write.register, write.byte);
+        cursor = turn.cursor;
     }
 }

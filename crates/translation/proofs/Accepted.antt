@@ -7,12 +7,13 @@ use mathlib.Core.List.{List, []}
 use lib.ListN.{length, length-drop}
 use Rattle.refusal.specs.Checks.{first}
 use Rattle.cards.specs.declared.types.Chip.{Chip}
+use Rattle.cards.specs.declared.types.Layout.{Layout}
 use Rattle.cards.specs.declared.types.Shape.{Shape}
 use Rattle.cards.specs.declared.types.Shape.the-variants.{Slope, Steps}
 use Rattle.cards.specs.Sheets.{room}
-use Rattle.cards.specs.Cards.{chipOf, whenKnown, shapeOf}
+use Rattle.cards.specs.Cards.{chipOf, whenKnown, shapeOf, layoutOf}
 use Rattle.cards.proofs.Numbers.{chip-number, chip-digit}
-use Rattle.cards.proofs.Tables.{table-digits}
+use Rattle.cards.proofs.Tables.{table-digits, table-sized, table-brief}
 use Rattle.curves.specs.declared.Plan.{Plan}
 use Rattle.bodies.proofs.Laws.{decoded-chip, decoded-table, decoded-sized}
 use Rattle.plans.specs.Contracts.{planChecks}
@@ -20,8 +21,8 @@ use Rattle.records.specs.Records.{recordLength, chipNumberIn, tableNumberIn, bo
 use Rattle.records.proofs.Answers.{Complete, recordPlan, complete-judged}
 use Rattle.records.proofs.Encoding.{body-of-shape}
 use Rattle.records.proofs.RoundTrip.{whole-record}
-use Rattle.scripts.specs.Scripts.{scriptOf, scriptFor}
-use Rattle.scripts.proofs.Lengths.{script-of-shape}
+use Rattle.scripts.specs.Scripts.{scriptOf, writesIn, scriptFor}
+use Rattle.scripts.proofs.Lengths.{script-of-table}
 use Rattle.translation.specs.Text.{refusalIn, usedIn}
 use Rattle.translation.specs.Parts.{Printable}
 
@@ -34,15 +35,10 @@ pub record Accepted (bytes : List ℕ) (used : ℕ) (plan : Plan) : Type 0 where
   pub table : plan .table < 100
   pub short : 35 + 6 * length (scriptFor plan) ≤ 10 * used
 
--- what a shape's body and script take
-record Takes (settings speeds : ℕ) : Type 0 where
-  least : 13 ≤ 4 + (settings + speeds)
-  writes : speeds + (settings + speeds) ≤ 24
-  short : 35 + 6 * (speeds + (settings + speeds)) ≤ 10 * (4 + (settings + speeds))
-
-takes : (shape : Shape) → Takes (room shape .0) (room shape .1)
-takes (Slope full) = record { least = omega arith; writes = omega arith; short = omega arith }
-takes Steps = record { least = omega arith; writes = omega arith; short = omega arith }
+-- no body is shorter than a slope's
+least-room : (shape : Shape) → 9 ≤ room shape .0 + room shape .1
+least-room (Slope full) = omega arith
+least-room Steps = omega arith
 
 module _ (bytes : List ℕ) (C : Complete bytes) (none : first (planChecks (recordPlan bytes C)) ≡ 0) where
   abbrev chip : Chip
@@ -51,33 +47,37 @@ module _ (bytes : List ℕ) (C : Complete bytes) (none : first (planChecks (reco
   abbrev shape : Shape
   shape = shapeOf chip (tableNumberIn bytes)
 
+  abbrev facts : Layout
+  facts = layoutOf chip (tableNumberIn bytes)
+
   abbrev plan : Plan
   plan = recordPlan bytes C
 
   numbered : plan .chip ≡ chipNumberIn bytes
-  numbered = decoded-chip shape (chipNumberIn bytes) (tableNumberIn bytes) (bodyIn bytes)
+  numbered = decoded-chip (facts .leading) shape (chipNumberIn bytes) (tableNumberIn bytes) (bodyIn bytes)
 
   tabled : plan .table ≡ tableNumberIn bytes
-  tabled = decoded-table shape (chipNumberIn bytes) (tableNumberIn bytes) (bodyIn bytes)
+  tabled = decoded-table (facts .leading) shape (chipNumberIn bytes) (tableNumberIn bytes) (bodyIn bytes)
 
-  writes : length (scriptFor plan) ≡ room shape .1 + (room shape .0 + room shape .1)
+  writes : length (scriptFor plan) ≡ writesIn facts
   writes =
       ap (λ (n : ℕ). length (whenKnown (chipOf n) (λ c. scriptOf c plan) [])) numbered
       ∙ rw (C .whole .named)
-      (subst (λ (t : ℕ). length (scriptOf chip plan) ≡ room (shapeOf chip t) .1 + (room (shapeOf chip t) .0 + room (shapeOf chip t) .1)) tabled
-      (script-of-shape chip plan (decoded-sized shape (chipNumberIn bytes) (tableNumberIn bytes) (bodyIn bytes)) (rw tabled (C .whole .has))))
+      (subst (λ (t : ℕ). length (scriptOf chip plan) ≡ writesIn (layoutOf chip t)) tabled
+      (script-of-table chip plan (decoded-sized (facts .leading) shape (chipNumberIn bytes) (tableNumberIn bytes) (bodyIn bytes))))
 
   complete : Accepted bytes (recordLength chip) plan
   complete =
       let long = body-of-shape chip (tableNumberIn bytes) (C .whole .has) in
-      let t = takes shape in
+      let sizes = table-sized chip (tableNumberIn bytes) (C .whole .has) in
+      let short = table-brief chip (tableNumberIn bytes) (C .whole .has) in
       record {
         whole = omega (arith, length-drop 4 bytes, C .whole .long, C .marked .long);
-        least = omega (arith, t .least, long);
-        accepts = record { checks = none; writes = omega (arith, writes, t .writes) };
+        least = omega (arith, least-room shape, long);
+        accepts = record { checks = none; writes = omega (arith, writes, short .1) };
         chip = omega (arith, numbered, chip-number (chipNumberIn bytes) chip (C .whole .named), chip-digit chip);
         table = omega (arith, tabled, table-digits chip (tableNumberIn bytes) (C .whole .has));
-        short = omega (arith, writes, t .short, long);
+        short = omega (arith, writes, short .0, sizes .0, sizes .1, long);
       }
 
 pub accepted : (bytes : List ℕ) → refusalIn bytes ≡ 0 → Accepted bytes (usedIn bytes) (planIn bytes)

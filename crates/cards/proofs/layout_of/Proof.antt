@@ -2,7 +2,7 @@
 -- Assumes nothing.
 use mathlib.Core.Path.{sym, ap}
 use Rattle.cards.specs.Sheets.{layout}
-use Rattle.cards.specs.Cards.{cardOf}
+use Rattle.cards.specs.Cards.{banksOf, cardOf}
 use Rattle.cards.proofs.Tables.{table-found, table-missed, table-none}
 use borrow.Author.Needs.{needs}
 use Rattle.cards.proofs.layout_of.Statement.{statement}
@@ -24,7 +24,7 @@ returns-2 : tie.Need-returns-2
 returns-2 c =
     let a = c .before .before .before .args in
     let none = table-none (a .chip) (a .number) (table-missed (c .before .before .table-of .ensures) (c .enum-told .given .1)) in
-    record { answer = ap (layout (cardOf (a .chip))) (sym none) }
+    record { answer = ap (layout (banksOf (a .chip)) (cardOf (a .chip))) (sym none) }
 
 pub layout-of-spec : {M : Type 1} → statement M
 layout-of-spec =

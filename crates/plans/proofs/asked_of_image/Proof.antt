@@ -2,6 +2,7 @@
 -- Assumes nothing.
 use Prim.Native.Nat.{ℕ}
 use mathlib.Core.Path.{_≡_, sym, ap, _∙_}
+use mathlib.Core.Bool.{false}
 use borrow.Author.Tests.{eq-eqb, ne-eqb}
 use Rattle.cards.specs.declared.types.Layout.{Layout}
 use Rattle.cards.specs.declared.types.Sizes.{Sizes}
@@ -83,14 +84,14 @@ returns-4 c =
     let long = ap (λ (z : Sizes). z .image) (s .sizes-of .ensures .answer) in
     let shape = l .layout .given .0 .0 .shape in
     let bytes = column 14 (λ k. worthAt (registerIn (sheetOf known) (a .table) k) (a .image .now)) in
-    let plan : c .before .plan-of .result ≡ decoded shape (a .chip) (a .table) bytes =
-    c .before .plan-of .ensures .answer ∙ ap (decoded shape (a .chip) (a .table)) (h .held .ensures) in
+    let plan : c .before .plan-of .result ≡ decoded false shape (a .chip) (a .table) bytes =
+    c .before .plan-of .ensures .answer ∙ ap (decoded false shape (a .chip) (a .table)) (h .held .ensures) in
     record {
       answer = rw (e, found .0, eq-eqb _ _ (h .before .if1 .left ∙ long))
           (ap (λ (speed : ℕ). (0, speed))
           (c .speed-of .ensures .answer
           ∙ ap (λ (p : Plan). asks shape (planned shape p) (a .t)) plan
-          ∙ ap (λ (f : Layout). asks (f .shape) (planned (f .shape) (decoded (f .shape) (a .chip) (a .table) bytes)) (a .t)) (found .1)
+          ∙ ap (λ (f : Layout). asks (f .shape) (planned (f .shape) (decoded false (f .shape) (a .chip) (a .table) bytes)) (a .t)) (found .1)
           ∙ registers-ask known (a .chip) (a .table) (a .image .now) (a .t) (found .0)));
     }
 

@@ -125,9 +125,9 @@ returns-4 c =
     let used = room shape .0 + room shape .1 in
     plan-accepted _ _ _ whole _ _ (long l)
     (c .plan-of .ensures .answer
-    ∙ ap (decoded (layout l .shape) number (table l)) (taken .body-in .ensures)
-    ∙ ap (λ (laid : Layout). decoded (laid .shape) number (table l) (column 14 (front (room (laid .shape) .0 + room (laid .shape) .1) (bytes l)))) (found l .1)
-    ∙ decoded-front (bytes l) (front used (bytes l)) shape number (table l) (λ k h. rw (lt-ltb k used h)))
+    ∙ ap (decoded (layout l .leading) (layout l .shape) number (table l)) (taken .body-in .ensures)
+    ∙ ap (λ (laid : Layout). decoded (laid .leading) (laid .shape) number (table l) (column 14 (front (room (laid .shape) .0 + room (laid .shape) .1) (bytes l)))) (found l .1)
+    ∙ decoded-front (bytes l) (front used (bytes l)) (layoutOf (chip (known l)) (table l) .leading) shape number (table l) (λ k h. rw (lt-ltb k used h)))
 
 pub plan-from-spec : {M : Type 1} → statement M
 plan-from-spec =

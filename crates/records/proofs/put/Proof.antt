@@ -14,12 +14,10 @@ use Rattle.cards.specs.declared.types.Layout.{Layout}
 use Rattle.cards.specs.Rows.{column}
 use Rattle.cards.proofs.Columns.{column-length}
 use Rattle.curves.specs.declared.Plan.{Plan}
-use Rattle.curves.specs.Planned.{planned}
 use Rattle.curves.specs.Values.{Sized}
 use Rattle.curves.proofs.Owned.{plan-typed}
-use Rattle.bodies.specs.Bodies.{body}
-use Rattle.plans.specs.Plans.{plannedFor}
-use Rattle.records.specs.Records.{header, recordOf, recordLength}
+use Rattle.bodies.specs.Bodies.{bodyOf}
+use Rattle.records.specs.Records.{header, recordBody, recordOf, recordLength}
 use Rattle.records.proofs.Encoding.{body-of-table, record-of-plan, length-short, record-begins}
 use Rattle.records.proofs.Answers.{put-short, put-whole}
 use Rattle.records.proofs.put.Statement.{statement}
@@ -70,13 +68,13 @@ laid c = c .before .before .before .before .before
 
 whole : (c : Encoded)
     → c .record-of .result
-    ≡ header (plan (laid c) .chip) (plan (laid c) .table) ++ column 14 (λ k. getD (body (plannedFor (chip (laid c)) (plan (laid c)))) k 0)
+    ≡ header (plan (laid c) .chip) (plan (laid c) .table) ++ column 14 (λ k. getD (recordBody (chip (laid c)) (plan (laid c))) k 0)
 whole c =
     let l = laid c in
     c .record-of .ensures
     ∙ ap (λ (bytes : List ℕ). header (plan l .chip) (plan l .table) ++ bytes)
     (c .before .body-of .ensures .answer
-    ∙ ap (λ (facts : Layout). column 14 (λ k. getD (body (planned (facts .shape) (plan l))) k 0)) (l .layout-of .ensures .answer))
+    ∙ ap (λ (facts : Layout). column 14 (λ k. getD (bodyOf (facts .leading) (facts .shape) (plan l)) k 0)) (l .layout-of .ensures .answer))
 
 begins : (c : Encoded)
     → take (4 + layout (laid c) .settings + layout (laid c) .speeds) (c .record-of .result) ≡ recordOf (chip (laid c)) (plan (laid c))
@@ -84,7 +82,7 @@ begins c = let l = laid c in ap₂ (λ (n : ℕ) (bytes : List ℕ). take n byte
 
 eighteen : (c : Encoded) → length (c .record-of .result) ≡ 18
 eighteen c =
-    let values = body (plannedFor (chip (laid c)) (plan (laid c))) in
+    let values = recordBody (chip (laid c)) (plan (laid c)) in
     omega (arith, ap length (whole c), column-length 14 (λ k. getD values k 0))
 
 short : (c : Laid) → 4 + layout c .settings + layout c .speeds ≤ 18

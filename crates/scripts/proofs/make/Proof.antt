@@ -16,8 +16,9 @@ use Rattle.scripts.proofs.make.Tie as tie
 -- the load is short, since a table is
 short : (c : tie.After-load-of) → Short (c .load-of .result)
 short c =
-    let a = c .before .before .args in
-    subst Short (sym (c .load-of .ensures)) (load-short (a .chip) (a .plan))
+    let begun = c .before .before in
+    let a = begun .args in
+    subst Short (sym (c .load-of .ensures)) (load-short (a .chip) (a .plan) (plan-typed (a .plan) _ (begun .good .1 .0) .sized))
 
 load-of-requires : tie.Need-load-of-requires
 load-of-requires c κs = search needs

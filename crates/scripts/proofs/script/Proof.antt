@@ -2,15 +2,15 @@
 -- Assumes nothing.
 use Prim.Native.Nat.{ℕ}
 use mathlib.Core.Path.{sym, ap, ap₂, subst, _∙_}
-use mathlib.Core.List.{List, []}
+use mathlib.Core.List.{List, [], map}
 use Rattle.cards.specs.declared.types.Named.{Named}
 use Rattle.cards.specs.Cards.{whenKnown}
 use Rattle.curves.proofs.Owned.{plan-typed}
 use Rattle.plans.proofs.Laws.{refused-plan, accepted-plan, accepted-chip}
 use Rattle.scripts.specs.declared.making.Load.{Load}
-use Rattle.scripts.specs.Scripts.{scriptOf}
+use Rattle.scripts.specs.Scripts.{addressed, scriptOf}
 use Rattle.scripts.specs.Making.{writesOf, pairsOf, Short}
-use Rattle.scripts.proofs.Prepared.{load-short, body-long, load-pairs}
+use Rattle.scripts.proofs.Prepared.{load-short, body-long, load-script}
 use Rattle.scripts.proofs.Answers.{script-refused, script-put}
 use borrow.Author.Needs.{needs}
 use Rattle.scripts.proofs.script.Statement.{statement}
@@ -38,8 +38,9 @@ put-all-requires : tie.Need-put-all-requires
 put-all-requires c κs =
     let made = c .before .before .before in
     let known = made .before .before in
-    let plan = known .before .before .before .before .args .plan in
-    (subst Short (sym (made .load-of .ensures)) (load-short (known .chip .given .0 .0) plan), body-long (known .chip .given .0 .0) plan (c .before .before .bytes-of .ensures))
+    let start = known .before .before .before .before in
+    let plan = start .args .plan in
+    (subst Short (sym (made .load-of .ensures)) (load-short (known .chip .given .0 .0) plan (plan-typed plan _ (start .good .0) .sized)), body-long (known .chip .given .0 .0) plan (c .before .before .bytes-of .ensures))
 
 returns : tie.Need-returns
 returns c =
@@ -61,8 +62,8 @@ returns-2 c =
     let chip = known .chip .given .0 .0 in
     let told = known .chip .given .1 in
     let pairs =
-    ap₂ (λ (l : Load) (bytes : List ℕ). pairsOf l bytes (writesOf l)) (made .load-of .ensures) (body .bytes-of .ensures)
-    ∙ load-pairs chip plan (plan-typed plan _ (start .good .0) .sized)
+    ap₂ (λ (l : Load) (bytes : List ℕ). map addressed (pairsOf l bytes (writesOf l))) (made .load-of .ensures) (body .bytes-of .ensures)
+    ∙ load-script chip plan (plan-typed plan _ (start .good .0) .sized)
     ∙ ap (λ (n : Named). whenKnown n (λ c. scriptOf c plan) []) (sym (accepted-chip chip (asked .accept .ensures) told)) in
     script-put _ _ (accepted-plan chip (asked .accept .ensures) told) pairs (wrote .put-all .ensures)
 

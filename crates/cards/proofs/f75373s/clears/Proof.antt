@@ -7,7 +7,8 @@ use mathlib.Core.List.{List, [], _∷_}
 use borrow.Author.Tests.{ne-eqb}
 use Rattle.cards.specs.Rows.{every, rowIn}
 use Rattle.cards.specs.F75373s.{card}
-use Rattle.cards.proofs.Carried.{among, unclearing, clears-none}
+use Rattle.cards.specs.Banks.{among}
+use Rattle.cards.proofs.Carried.{unclearing, clears-none}
 use Rattle.cards.proofs.f75373s.clears.Statement.{statement}
 use Rattle.cards.proofs.f75373s.clears.Tie as tie
 

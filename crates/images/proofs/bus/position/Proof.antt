@@ -1,12 +1,22 @@
--- `images::bus::position` meets its contract: an access lands at its address.
+-- `images::bus::position` meets its contract: an access lands where its address stands in the bank selected.
 -- Assumes nothing.
-use mathlib.Core.Path.{sym}
-use Rattle.images.proofs.Laws.{lands}
+use Prim.Native.Nat.{ℕ}
+use mathlib.Core.Path.{sym, ap, _∙_}
+use Rattle.cards.specs.Banks.{standsIn}
+use Rattle.cards.specs.Cards.{banksOf}
+use borrow.Author.Needs.{needs}
+use Rattle.images.proofs.Landing.{lands}
 use Rattle.images.proofs.bus.position.Statement.{statement}
 use Rattle.images.proofs.bus.position.Tie as tie
 
-returns : tie.Need-returns
-returns c = sym (lands (c .args .chip) (c .args .image .now) (c .args .address))
-
 pub position-spec : {M : Type 1} → statement M
-position-spec = tie.close (tie.spec returns)
+position-spec =
+    tie.close
+    (tie.spec
+    (λ c κs. search needs)
+    (λ c κs. search needs)
+    (λ c.
+    let a = c .before .before .before .args in
+    c .position-of .ensures .answer
+    ∙ ap (λ (bank : ℕ). standsIn (banksOf (a .chip)) bank (a .address)) (c .before .selected .ensures)
+    ∙ sym (lands (a .chip) (a .image .now) (a .address))))

@@ -13,12 +13,25 @@ layout-of-requires c κs = search needs
 full-of-requires : tie.Need-full-of-requires
 full-of-requires c κs = search needs
 
+selector-of-requires : tie.Need-selector-of-requires
+selector-of-requires c κs = search needs
+
 returns : tie.Need-returns
 returns c =
-    let told = c .before .layout-of .ensures .answer in
-    let a = c .before .before .args in
-    let full = c .full-of .ensures .answer ∙ ap (λ (l : Layout). fullOf (l .shape)) told in
-    λ i. record { chip = a .chip; table = a .plan .table; settings = told i .settings; speeds = told i .speeds; full = full i }
+    let full = c .before .full-of .ensures .answer in
+    let told = c .before .before .layout-of .ensures .answer in
+    let a = c .before .before .before .args in
+    let selector = c .selector-of .ensures .answer in
+    let fullest = full ∙ ap (λ (l : Layout). fullOf (l .shape)) told in
+    λ i. record {
+      chip = a .chip;
+      table = a .plan .table;
+      settings = told i .settings;
+      speeds = told i .speeds;
+      full = fullest i;
+      selector = selector i;
+      selects = told i .selects;
+    }
 
 pub load-of-spec : {M : Type 1} → statement M
-load-of-spec = tie.close (tie.spec layout-of-requires full-of-requires returns)
+load-of-spec = tie.close (tie.spec layout-of-requires full-of-requires selector-of-requires returns)

@@ -3,23 +3,26 @@
 use Prim.Native.Nat.{_-_, _<_}
 use native.Mathlib.Omega.{arith}
 use mathlib.Core.Path.{sym, subst}
-use Rattle.scripts.specs.declared.making.Write.{Write}
-use Rattle.scripts.proofs.Turns.{write-address, Written, written-none, next-inside, written-more, put-none, put-all}
+use Rattle.scripts.specs.declared.making.Cursor.{Cursor}
+use Rattle.scripts.specs.Making.{registersOf}
+use Rattle.scripts.proofs.Turns.{Written, written-none, next-inside, written-more, put-none, put-all}
 use borrow.Author.Needs.{needs}
 use Rattle.scripts.proofs.output.put_all.Statement.{statement}
 use Rattle.scripts.proofs.output.put_all.Tie as tie
 
 abbrev Inv-loop : tie.InvT-loop
-Inv-loop load body out₀ writes at₀ k₀ out at k = Written load body out₀ out at k
+Inv-loop load body out₀ writes at₀ cursor₀ k₀ out at cursor k = Written load body out₀ out at cursor k
 
 abbrev μ-loop : tie.MeasureT-loop
-μ-loop load body out₀ writes at₀ k₀ out at k = writes - k
+μ-loop load body out₀ writes at₀ cursor₀ k₀ out at cursor k = writes - k
 
 length-requires : tie.Need-length-requires Inv-loop μ-loop
 length-requires c κs = search needs
 
 mul-if1 : tie.Need-mul-if1 Inv-loop μ-loop
-mul-if1 c = omega (arith, c .length .ensures, c .before .before .before .pre .0 .registers)
+mul-if1 c =
+    let short = c .before .before .before .pre .0 in
+    omega (arith, c .length .ensures, short .registers, short .selects)
 
 returns : tie.Need-returns Inv-loop μ-loop
 returns c = put-none _ _ _ (omega (arith, c .if1 .taken, c .before .length .ensures))
@@ -27,20 +30,18 @@ returns c = put-none _ _ _ (omega (arith, c .if1 .taken, c .before .length .ensu
 loop-holds : tie.Need-loop-holds Inv-loop μ-loop
 loop-holds c = written-none _ _ _ (omega (arith, c .if1 .left, c .before .length .ensures))
 
-write-requires : tie.Need-write-requires Inv-loop μ-loop
-write-requires c κs =
-    let told = c .before .before .before in
+turn-requires : tie.Need-turn-requires Inv-loop μ-loop
+turn-requires c κs =
+    let at = c .before in
+    let told = at .before .before in
     let start = told .before .before .before in
-    (start .pre .0, (start .pre .1, omega (arith, c .loop-test .taken, told .length .ensures)))
+    let next = start .pre .0 .turns (at .loop .k) (omega (arith, c .loop-test .taken, told .length .ensures)) in
+    (start .pre .0, (start .pre .1, subst (λ (cursor : Cursor). cursor .next < registersOf (start .args .load)) (sym (at .loop .inv .turn)) next))
 
 put-requires : tie.Need-put-requires Inv-loop μ-loop
 put-requires c κs =
-    let wrote = c .before in
-    let turn = wrote .before in
-    let start = turn .before .before .before .before .before .before in (
-      subst (λ (w : Write). w .register .position < 256) (sym (wrote .write .ensures)) (write-address (start .args .load) (start .args .body .now) (turn .before .loop .k)),
-      next-inside (turn .before .loop .inv) (omega (arith, turn .loop-test .taken, turn .before .before .before .length .ensures)),
-    )
+    let at = c .before .before .before in
+    next-inside (at .before .loop .inv) (omega (arith, at .loop-test .taken, at .before .before .before .length .ensures))
 
 add-k : tie.Need-add-k Inv-loop μ-loop
 add-k c = search needs
@@ -50,11 +51,11 @@ loop-less c = search needs
 
 loop-again : tie.Need-loop-again Inv-loop μ-loop
 loop-again c =
-    let turn = c .before .before .before .before .before in
-    let put = c .before .before .put in
-    written-more _ (turn .before .loop .inv)
-    (omega (arith, turn .loop-test .taken, turn .before .before .before .length .ensures))
-    (c .before .before .before .before .write .ensures) (put .ensures .0) (put .ensures .1)
+    let put = c .before .before .before in
+    let turn = put .before .before .before in
+    let at = turn .before in
+    written-more _ (at .before .loop .inv) (omega (arith, at .loop-test .taken, at .before .before .before .length .ensures))
+    (turn .turn .ensures .0) (turn .turn .ensures .1) (put .put .ensures .0) (put .put .ensures .1)
 
 same-length : tie.Need-same-length Inv-loop μ-loop
 same-length c = c .before .loop .inv .long
@@ -72,7 +73,7 @@ put-all-spec =
     mul-if1
     returns
     loop-holds
-    write-requires
+    turn-requires
     put-requires
     add-k
     loop-less
