@@ -101,11 +101,11 @@ pub fn right_steps(high: u8, low: u8) -> i16
 pub fn right_bytes(steps: i16) -> Bytes
     ensures { λ r. ⌜ GivesRight steps r ⌝ }
 {
-    if !does_fit(11, steps) {
-        return Bytes::Refused(Refusal::StepsDoNotFit);
+    if does_fit(11, steps) {
+        let word = as_word(steps);
+        return Bytes::Pair((word / 8 % 256) as u8, (word % 8) as u8);
     }
-    let word = as_word(steps);
-    Bytes::Pair((word / 8 % 256) as u8, (word % 8) as u8)
+    Bytes::Refused(Refusal::StepsDoNotFit)
 }
 
 // What a count of an NCT7904D voltage is worth in microvolts, by the address of its high byte; 0 where no voltage's high byte stands.
