@@ -4,7 +4,7 @@
 -- Assumes nothing.
 use Prim.Native.Nat.{ℕ, suc, _+_, _-_, _*_, _/_, _%_, _^_, _<_, _≤_}
 use native.Mathlib.Omega.{arith}
-use native.Mathlib.Nat.{div-add-mod', mod-lt, mul-assoc, add-mul, suc-mul, mul-pos, mul-le-mul-right, mul-div-cancel, mod-eq-of-lt}
+use native.Mathlib.Nat.{div-add-mod', mod-lt, mul-assoc, add-mul, suc-mul, mul-le-mul-right, mul-div-cancel, mod-eq-of-lt}
 use mathlib.Core.Path.{_≡_, refl, sym, ap, ap₂, _∙_, subst}
 use mathlib.Core.Bool.{Bool, true, false}
 use borrow.Author.Tests.{ltb-true, ltb-false}
@@ -15,7 +15,7 @@ use lib.Pow.{pow-pos, shl-shr, shr-lt, shr-mod}
 use Rattle.refusal.specs.Checks.{first}
 use Rattle.readings.specs.declared.Bytes.{Bytes}
 use Rattle.readings.specs.declared.Bytes.the-variants.{Pair}
-use Rattle.readings.specs.Readings.{wordOf, bytesOf, asNumber, asWord, fits, stepsAt, bytesAt, stepsPerDegree, degreesOf, lowCount, stepsFrom, bytesFrom}
+use Rattle.readings.specs.Readings.{wordOf, bytesOf, asWord, fits, stepsAt, bytesAt, stepsPerDegree, degreesOf, lowCount, stepsFrom, bytesFrom}
 use Rattle.readings.specs.Contracts.{rightChecks, tellsBytes, CountsRight, GivesRight}
 use Rattle.readings.proofs.Unique.{tellsBytes-injective}
 use Rattle.readings.proofs.Integers.{below, negated}

@@ -8,4 +8,5 @@ pub mod RoundTrip
 pub mod Inputs
 pub mod Degrees
 pub mod Aligned
+pub mod Replaced
 pub mod Sensors
