@@ -212,7 +212,8 @@ uint64_t yk_right_bytes(int16_t steps);
  * The microvolts of a voltage of the NCT7904D: 8 times high plus bits 2 to 0 of low, times what a
  * count is worth. input is the address of the high byte in bank 0: 40h, 42h and so on to 5Ah are
  * VSEN1 to VSEN14, of which a count is 2,000 microvolts; 5Ch, 5Eh, 60h are 3VDD, VBAT, 3VSB and
- * 64h, 66h, 68h are VSEN17 to VSEN19, of which it is 6,000.
+ * 64h, 66h, 68h are VSEN17 to VSEN19, of which it is 6,000. A channel that is in temperature mode
+ * holds a temperature there (VSEN2, 4, 6, 8): take it with yk_right_steps.
  * Refusals: none. Value: the microvolts, 0 to 12,282,000; 0 where input is no such address.
  */
 uint64_t yk_input_microvolts(uint8_t input, uint8_t high, uint8_t low);
