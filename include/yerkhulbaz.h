@@ -100,13 +100,13 @@ static inline uint64_t yk_value(uint64_t answer) {
     return answer >> 8;
 }
 
-/* The steps of an accepted yk_steps, with their sign. */
+/* The steps of an accepted yk_steps or of yk_right_steps, with their sign. */
 static inline int16_t yk_steps_value(uint64_t answer) {
     uint64_t word = yk_value(answer) & 0xFFFFu;
     return word < 0x8000u ? (int16_t)word : (int16_t)((int32_t)word - 0x10000);
 }
 
-/* The two bytes of an accepted yk_bytes. */
+/* The two bytes of an accepted yk_bytes or yk_right_bytes. */
 static inline uint8_t yk_bytes_high(uint64_t answer) {
     return (uint8_t)((yk_value(answer) >> 8) & 0xFFu);
 }
@@ -193,6 +193,30 @@ uint64_t yk_bytes(uint8_t width, int16_t steps);
  * Refusals: none. Value: the microvolts, 0 to 2,557,500.
  */
 uint64_t yk_microvolts(uint16_t word);
+
+/*
+ * The steps of a temperature of the NCT7904D, whose low three bits stand right-aligned in the low
+ * byte: 8 times the signed high byte plus bits 2 to 0 of low. A step is 1/8 degree. The other bits
+ * of low are ignored.
+ * Refusals: none. Value: the steps, -1024 to 1023; take them with yk_steps_value(answer).
+ */
+uint64_t yk_right_steps(uint8_t high, uint8_t low);
+
+/*
+ * The two bytes of such a number of steps, -1024 to 1023, the ignored bits as zero.
+ * Refusals: 12. Value: high * 256 + low; yk_bytes_high(answer), yk_bytes_low(answer).
+ */
+uint64_t yk_right_bytes(int16_t steps);
+
+/*
+ * The microvolts of a voltage of the NCT7904D: 8 times high plus bits 2 to 0 of low, times what a
+ * count is worth. input is the address of the high byte in bank 0: 40h, 42h and so on to 5Ah are
+ * VSEN1 to VSEN14, of which a count is 2,000 microvolts; 5Ch, 5Eh, 60h are 3VDD, VBAT, 3VSB and
+ * 64h, 66h, 68h are VSEN17 to VSEN19, of which it is 6,000. A channel that is in temperature mode
+ * holds a temperature there (VSEN2, 4, 6, 8): take it with yk_right_steps.
+ * Refusals: none. Value: the microvolts, 0 to 12,282,000; 0 where input is no such address.
+ */
+uint64_t yk_input_microvolts(uint8_t input, uint8_t high, uint8_t low);
 
 /* ---- The alarm watch of chip 3 */
 

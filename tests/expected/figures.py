@@ -14,14 +14,14 @@ sys.dont_write_bytecode = True
 
 from curves import curves
 from images import identity_bits, image_calls, no_identity, rows, stored
-from readings import sensors, temperatures, voltages
+from readings import inputs, right_aligned, sensors, temperatures, voltages
 from records import records
 from scripts import scripts
 from watch import watches
 
 PROGRAMS = {
     "figures_chips": (rows, image_calls, stored, identity_bits, no_identity),
-    "figures_readings": (temperatures, sensors, voltages),
+    "figures_readings": (temperatures, sensors, voltages, right_aligned, inputs),
     "figures_watch": (watches,),
     "figures_plans": (curves,),
     "figures_records": (records,),

@@ -98,3 +98,72 @@ def voltages():
     """Bits 15 to 6 times 2,500 microvolts."""
     for word in (0x0000, 0x003F, 0x0040, 0x7FFF, 0x8000, 0xFFC0, 0xFFFF):
         print("voltage word %04X microvolts %d" % (word, word // 64 * 2500))
+
+
+def right_steps(high, low):
+    """Of the NCT7904D: "8 times the signed high byte plus the low byte's bits 2 to 0, the other low bits ignored"."""
+    return 8 * (high - 256 if high > 127 else high) + low % 8
+
+
+# The bytes of each number of steps: those that read as these steps and whose ignored bits are zero.
+RIGHT = {right_steps(high, low): (high, low) for high in range(256) for low in range(8)}
+
+
+def right_from_bytes(high, low, steps):
+    """The bytes with their ignored bits as zeros, and as ones."""
+    for byte in (low, low | 0xF8):
+        assert right_steps(high, byte) == steps
+        print("temperature right-aligned bytes %02X%02X steps %d" % (high, byte, steps))
+
+
+def right_from_steps(steps):
+    answer = "bytes %02X%02X steps %d" % (*RIGHT[steps], right_steps(*RIGHT[steps])) if steps in RIGHT else "refused 12"
+    print("temperature right-aligned steps %d %s" % (steps, answer))
+
+
+def right_aligned():
+    """The request's figures, then section 6.3 of the sheet, in degrees, where a figure hasn't had the row."""
+    for high, low, steps in ((0xE6, 0x02, -206), (0x80, 0x00, -1024), (0x7F, 0x07, 1023), (0xFF, 0x07, -1)):
+        right_from_bytes(high, low, steps)
+    assert right_steps(0xE6, 0x02) == -25.750 * 8 and right_steps(0x7F, 0x07) == 127.875 * 8
+    for high, low, degrees in (
+        (0x19, 0x06, 25.750),
+        (0x02, 0x02, 2.250),
+        (0x01, 0x01, 1.125),
+        (0x00, 0x00, 0),
+        (0xFE, 0x07, -1.125),
+        (0xFD, 0x06, -2.250),
+        (0x80, 0x01, -127.875),
+    ):
+        right_from_bytes(high, low, degrees * 8)
+    least, greatest = min(RIGHT), max(RIGHT)
+    for steps in (-32768, least - 1, least, -206, -1, 0, greatest, greatest + 1, 32767):
+        right_from_steps(steps)
+    words = [(high, low) for high in range(256) for low in range(256)]
+    back = sum(RIGHT[right_steps(high, low)] == (high, low % 8) for high, low in words)
+    total = sum(right_steps(high, low) for high, low in words) % 65536
+    print("temperature right-aligned words back %d sum of steps %d" % (back, total))
+
+
+# Section 7.1.10 of the sheet: the high bytes from 40h on, each with its low byte behind it. Section 6.4: a count is 0.002 V of VSEN1 to 14 and 0.006 V of
+# 3VSB, 3VDD, VBAT and VSEN17 to 19; LTD is a temperature.
+PLACES = ["VSEN%d" % n for n in range(1, 15)] + ["3VDD", "VBAT", "3VSB", "LTD", "VSEN17", "VSEN18", "VSEN19"]
+WORTH = {"VSEN%d" % n: 2000 for n in range(1, 15)} | {name: 6000 for name in ("3VSB", "3VDD", "VBAT", "VSEN17", "VSEN18", "VSEN19")}
+INPUTS = {0x40 + 2 * k: WORTH[name] for k, name in enumerate(PLACES) if name in WORTH}
+
+
+def voltage_of(address, high, low):
+    microvolts = (8 * high + low % 8) * INPUTS.get(address, 0)
+    print("voltage input %02X bytes %02X%02X microvolts %d" % (address, high, low, microvolts))
+    return microvolts
+
+
+def inputs():
+    """The request's bytes 19 06 at every address of a voltage and around them, then both scales, LTD and no input at their ends."""
+    answers = {address: voltage_of(address, 0x19, 0x06) for address in range(0x3E, 0x6C)}
+    assert (answers[0x40], answers[0x5C], answers[0x62]) == (412000, 1236000, 0)
+    for address in (0x40, 0x5C, 0x62):
+        for high, low in ((0x00, 0x00), (0x00, 0x01), (0xFF, 0xFF), (0x00, 0xF8)):
+            voltage_of(address, high, low)
+    for address in (0x00, 0xFF):
+        voltage_of(address, 0xFF, 0xFF)

@@ -33,7 +33,7 @@ low number k = getD (tableOf F75373s number .speeds) (2 * (k - 1) + 1) 0
 
 -- where a chip's temperatures stand
 abbrev temperature : Chip → Reading
-temperature chip = getD (sheetOf chip .temperatures) 0 (record { width = 0; high = []; low = 0x00; bits = 0x00 })
+temperature chip = getD (sheetOf chip .temperatures) 0 (record { width = 0; high = []; low = 0x00; bits = 0x00; unit = 0x00 })
 
 unfoldable pub registers : List Point
 registers =

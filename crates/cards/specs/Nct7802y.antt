@@ -185,7 +185,7 @@ identity =
 -- "Readings": "1/8 at 11 (chip 1: high byte and bits 7 to 5 of 05h)". The sheet has three such high bytes, of the remote diodes RTD1 to RTD3, and
 -- one low byte. LTD at 04h is no such temperature: "The local temperature (on-die) data with 8-bit" format.
 abbrev pub temperature : Reading
-temperature = record { width = 11; high = 0x01 ∷ 0x02 ∷ 0x03 ∷ []; low = 0x05; bits = 0xE0 }
+temperature = record { width = 11; high = 0x01 ∷ 0x02 ∷ 0x03 ∷ []; low = 0x05; bits = 0xE0; unit = 0x20 }
 
 -- "table 1 has T1 to T4 at 80h to 83h, critical 84h, FL1 to FL4 85h to 88h; table 2 the same from 90h, table 3 from A0h"
 abbrev pub table : ℕ → Table

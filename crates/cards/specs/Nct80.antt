@@ -53,7 +53,7 @@ card =
 
 -- "Readings": "1/16 at 12 (chip 3: 27h and bits 7 to 4 of 06h)"
 abbrev pub temperature : Reading
-temperature = record { width = 12; high = 0x27 ∷ []; low = 0x06; bits = 0xF0 }
+temperature = record { width = 12; high = 0x27 ∷ []; low = 0x06; bits = 0xF0; unit = 0x10 }
 
 -- "it has no identity rule here"; "chip 3: none" of the fan tables
 abbrev pub sheet : Sheet

@@ -27,13 +27,14 @@ required position bits value = record { position = position; bits = bits; value 
 abbrev pub requiredIn : List Required → ℕ → Required
 requiredIn identity k = getD identity k (required 0 0x00 0x00)
 
--- where a chip holds temperatures: their width, the address of each sensor's high byte, the address of the low byte that the sensors share, and
--- which bits of it count
+-- where a chip holds temperatures: their width, the address of each sensor's high byte, the address of the low byte that the sensors share, which bits
+-- of it count, and what the lowest of these is worth there: 2 to the power 16 minus the width where they are left-aligned, 1 where right-aligned
 pub record Reading : Type 0 where
   pub width : ℕ
   pub high : List ℕ
   pub low : ℕ
   pub bits : ℕ
+  pub unit : ℕ
 
 -- what a card says of an address
 pub record Row : Type 0 where

@@ -29,8 +29,10 @@ use Rattle.images.specs.Bytes.{storedAt}
 use Rattle.images.specs.Contracts.{imageChecks, tellsAdmitted}
 use Rattle.images.proofs.Admission.{admits-told}
 use Rattle.identities.specs.Contracts.{identityChecks, Confirms}
-use Rattle.readings.specs.Readings.{asWord, voltage}
+use Rattle.readings.specs.Readings.{asWord, stepsFrom, voltage}
+use Rattle.readings.specs.Inputs.{inputVoltage}
 use Rattle.readings.proofs.RoundTrip.{steps-come-back, bytes-come-back-cleared}
+use Rattle.readings.proofs.Aligned.{right-steps-come-back, right-bytes-come-back-cleared}
 use Rattle.watch.specs.declared.Watch.{Watch}
 use Rattle.watch.specs.declared.Sampled.{Sampled}
 use Rattle.watch.specs.Alarm.{fresh, taken, isSample, acknowledged, shown, run, recorded}
@@ -107,6 +109,9 @@ demand-1 =
       as-word = λ number. record { answer = asWord number; kept = record { answer = refl } };
       bytes-of = λ width steps r p. told-answered (0, 0) _ _ (p .answer);
       microvolts = λ word. record { answer = voltage word; kept = record { answer = refl } };
+      right-steps = λ high low. record { answer = stepsFrom 11 1 high low; kept = record { answer = refl } };
+      right-bytes = λ steps r p. told-answered (0, 0) _ _ (p .answer);
+      input-microvolts = λ input high low. record { answer = inputVoltage input high low; kept = record { answer = refl } };
       watch-new = λ behaviour. record { answer = fresh behaviour; kept = record { answer = refl } };
       watch-sample = sample-answered;
       watch-acknowledge = λ w. record { answer = acknowledged w; kept = record { answer = refl } };
@@ -140,6 +145,9 @@ demand-1 =
       yk-steps = λ width high low r p. packed-answered asWord _ (pos 0) _ refl (told-answered (pos 0) _ _ (p .kept .answer)) (p .same);
       yk-bytes = λ width steps r p. packed-answered (λ b. b .0 * 256 + b .1) _ (0, 0) _ refl (told-answered (0, 0) _ _ (p .kept .answer)) (p .same);
       yk-microvolts = λ word r p. packed-answered (λ n. n) [] 0 (0, p .answer) refl (never-refused 0 (p .answer)) (p .same);
+      yk-right-steps = λ high low r p. packed-answered (λ n. n) [] 0 (0, asWord (p .answer)) refl (never-refused 0 (asWord (p .answer))) (p .same);
+      yk-right-bytes = λ steps r p. packed-answered (λ b. b .0 * 256 + b .1) _ (0, 0) _ refl (told-answered (0, 0) _ _ (p .kept .answer)) (p .same);
+      yk-input-microvolts = λ input high low r p. packed-answered (λ n. n) [] 0 (0, p .answer) refl (never-refused 0 (p .answer)) (p .same);
       yk-sample = λ behaviour facts steps high hysteresis r p. packed-answered factsOf _ _ _ refl (sample-answered _ steps high hysteresis _ (p .kept)) (p .same);
       yk-acknowledge = λ behaviour facts r p. packed-answered (λ n. n) [] 0 (0, factsOf (p .answer)) refl (never-refused 0 (factsOf (p .answer))) (p .same);
       yk-run = λ behaviour facts samples high hysteresis r p. packed-answered (λ n. n) [] 0 (0, factsOf (p .answer)) refl (never-refused 0 (factsOf (p .answer))) (p .same);
@@ -157,6 +165,8 @@ demand-2 =
     record {
       steps-and-back = λ width high low n r w c. steps-come-back w c;
       bytes-and-back = λ width high low n r h l c w. bytes-come-back-cleared h l c w;
+      right-steps-and-back = λ high low m n w c. right-steps-come-back w c;
+      right-bytes-and-back = λ high low n r h c w. right-bytes-come-back-cleared h c w;
       record-and-back = read-written;
       plan-and-back = λ plan old n new found S w r. written-read plan old n _ new found S w refl r;
       every-bit = accepted-bits;

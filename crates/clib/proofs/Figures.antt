@@ -23,7 +23,8 @@ use Rattle.images.specs.Bytes.{position, seen}
 use Rattle.images.specs.Contracts.{imageChecks}
 use Rattle.identities.specs.Contracts.{identityChecks}
 use Rattle.readings.specs.Readings as readings
-use Rattle.readings.specs.Contracts.{stepsChecks, bytesChecks}
+use Rattle.readings.specs.Contracts.{stepsChecks, bytesChecks, rightChecks}
+use Rattle.readings.specs.Inputs.{inputVoltage}
 use Rattle.watch.specs.declared.Watch.{Watch}
 use Rattle.watch.specs.Alarm as alarm
 use Rattle.watch.specs.Contracts.{sampleChecks}
@@ -33,7 +34,7 @@ use Rattle.translation.specs.Words.{decimal}
 use Rattle.translation.specs.Text.{textOf, endLine}
 use Rattle.clib.specs.Facts.{watchOf, factsOf}
 use Rattle.clib.specs.Packed.{packed, packs}
-use Rattle.clib.specs.Contracts.{YkRead, YkIdentity, YkSteps, YkBytes, YkMicrovolts, YkSample, YkAcknowledge, YkRun, YkReadRecord, YkAskedOfImage, YkTranslate}
+use Rattle.clib.specs.Contracts.{YkRead, YkIdentity, YkSteps, YkBytes, YkMicrovolts, YkRightSteps, YkRightBytes, YkInputMicrovolts, YkSample, YkAcknowledge, YkRun, YkReadRecord, YkAskedOfImage, YkTranslate}
 
 -- a call and what it is given; samples come with the limits 80 and 75
 pub data Call : Type 0 where
@@ -42,6 +43,9 @@ pub data Call : Type 0 where
   steps : ℕ → ℕ → ℕ → Call
   bytes : ℕ → ℤ → Call
   microvolts : ℕ → Call
+  rightSteps : ℕ → ℕ → Call
+  rightBytes : ℤ → Call
+  inputMicrovolts : ℕ → ℕ → ℕ → Call
   sample : ℕ → ℕ → ℤ → Call
   acknowledge : ℕ → ℕ → Call
   run : ℕ → ℕ → List ℤ → Call
@@ -55,6 +59,9 @@ Promise (identity chip image) r = YkIdentity chip image r
 Promise (steps width high low) r = YkSteps width high low r
 Promise (bytes width n) r = YkBytes width n r
 Promise (microvolts word) r = YkMicrovolts word r
+Promise (rightSteps high low) r = YkRightSteps high low r
+Promise (rightBytes n) r = YkRightBytes n r
+Promise (inputMicrovolts input high low) r = YkInputMicrovolts input high low r
 Promise (sample behaviour facts n) r = YkSample behaviour facts n (pos 80) (pos 75) r
 Promise (acknowledge behaviour facts) r = YkAcknowledge behaviour facts r
 Promise (run behaviour facts ns) r = YkRun behaviour facts ns (pos 80) (pos 75) r
@@ -82,6 +89,9 @@ answer (identity chip image) = packed (first (identityChecks chip image)) 0
 answer (steps width high low) = ofSteps (toldOr (pos 0) (stepsChecks width) (readings.stepsAt width high low))
 answer (bytes width n) = ofBytes (toldOr (0, 0) (bytesChecks width n) (readings.bytesAt width n))
 answer (microvolts word) = packed 0 (readings.voltage word)
+answer (rightSteps high low) = ofSteps (0, readings.stepsFrom 11 1 high low)
+answer (rightBytes n) = ofBytes (toldOr (0, 0) (rightChecks n) (readings.bytesFrom 11 1 n))
+answer (inputMicrovolts input high low) = packed 0 (inputVoltage input high low)
 answer (sample behaviour facts n) =
     ofWatch (first (sampleChecks n), alarm.after (watchOf behaviour facts) (alarm.sample n (pos 80) (pos 75)))
 answer (acknowledge behaviour facts) = ofWatch (0, alarm.acknowledged (watchOf behaviour facts))
@@ -99,6 +109,9 @@ only (identity chip image) r p = p .same ∙ ap (λ (n : ℕ). packed n 0) (p .k
 only (steps width high low) r p = p .same ∙ ap ofSteps (p .kept .answer)
 only (bytes width n) r p = p .same ∙ ap ofBytes (p .kept .answer)
 only (microvolts word) r p = p .same ∙ ap (λ (n : ℕ). packed 0 n) (p .kept .answer)
+only (rightSteps high low) r p = p .same ∙ ap (λ (n : ℤ). ofSteps (0, n)) (p .kept .answer)
+only (rightBytes n) r p = p .same ∙ ap ofBytes (p .kept .answer)
+only (inputMicrovolts input high low) r p = p .same ∙ ap (λ (n : ℕ). packed 0 n) (p .kept .answer)
 only (sample behaviour facts n) r p = p .same ∙ ap ofWatch (p .kept .answer)
 only (acknowledge behaviour facts) r p = p .same ∙ ap (λ (w : Watch). ofWatch (0, w)) (p .kept .answer)
 only (run behaviour facts ns) r p = p .same ∙ ap (λ (w : Watch). ofWatch (0, w)) (p .kept .answer)
@@ -188,6 +201,21 @@ figures =
     -- "the microvolts, 0 to 2,557,500"
     ∷ (microvolts 0x0000, 0)
     ∷ (microvolts 0xFFFF, 256 * 2557500)
+    -- right-aligned: -206 steps whatever the ignored bits are, both ends and -1; 1,024 does not fit
+    ∷ (rightSteps 0xE6 0x02, 0xFF3200)
+    ∷ (rightSteps 0xE6 0xFA, 0xFF3200)
+    ∷ (rightSteps 0x80 0x00, 0xFC0000)
+    ∷ (rightSteps 0x7F 0x07, 0x03FF00)
+    ∷ (rightSteps 0xFF 0xFF, 0xFFFF00)
+    ∷ (rightBytes (negℤ (pos 206)), 0xE60200)
+    ∷ (rightBytes (negℤ (pos 1024)), 0x800000)
+    ∷ (rightBytes (pos 1023), 0x7F0700)
+    ∷ (rightBytes (pos 1024), 0x00000C)
+    ∷ (rightBytes (negℤ (pos 1025)), 0x00000C)
+    -- 206 counts of VSEN1 and of 3VDD; LTD at 62h is no voltage
+    ∷ (inputMicrovolts 0x40 0x19 0x06, 256 * 412000)
+    ∷ (inputMicrovolts 0x5C 0x19 0x06, 256 * 1236000)
+    ∷ (inputMicrovolts 0x62 0x19 0x06, 0)
     -- "the byte"; 4 is no chip; "Chip 3 is never confirmed"
     ∷ (read 1 image 0, 0x5A00)
     ∷ (read 4 image 0, 0x0003)

@@ -16,7 +16,7 @@ use Rattle.scripts.proofs.Unique as scripts
 use Rattle.plays.proofs.Unique as plays
 use Rattle.translation.proofs.Unique as translation
 use Rattle.clib.specs.Packed.{packed, Answers}
-use Rattle.clib.specs.Contracts.{YkWrite, YkRead, YkReset, YkIdentity, YkSteps, YkBytes, YkMicrovolts, YkSample, YkAcknowledge, YkReadRecord, YkWriteRecord, YkAskedOfPlan, YkAskedOfImage, YkScript, YkPlay, YkTranslate, YkRun}
+use Rattle.clib.specs.Contracts.{YkWrite, YkRead, YkReset, YkIdentity, YkSteps, YkBytes, YkMicrovolts, YkRightSteps, YkRightBytes, YkInputMicrovolts, YkSample, YkAcknowledge, YkReadRecord, YkWriteRecord, YkAskedOfPlan, YkAskedOfImage, YkScript, YkPlay, YkTranslate, YkRun}
 
 pub packed-refusal : (a b v w : ℕ) → a < 256 → b < 256 → packed a v ≡ packed b w → a ≡ b
 packed-refusal a b v w h k e = omega arith
@@ -52,6 +52,15 @@ bytes-unique p q = answers-unique (λ a b k l. readings.writes-unique k l) p q
 
 pub microvolts-unique : {word : ℕ} {r s : ℕ} → YkMicrovolts word r → YkMicrovolts word s → r ≡ s
 microvolts-unique p q = answers-unique (λ a b k l. readings.measures-unique k l) p q
+
+pub right-steps-unique : {high low : ℕ} {r s : ℕ} → YkRightSteps high low r → YkRightSteps high low s → r ≡ s
+right-steps-unique p q = answers-unique (λ a b k l. readings.counts-right-unique k l) p q
+
+pub right-bytes-unique : {steps : ℤ} {r s : ℕ} → YkRightBytes steps r → YkRightBytes steps s → r ≡ s
+right-bytes-unique p q = answers-unique (λ a b k l. readings.writes-right-unique k l) p q
+
+pub input-microvolts-unique : {input high low : ℕ} {r s : ℕ} → YkInputMicrovolts input high low r → YkInputMicrovolts input high low s → r ≡ s
+input-microvolts-unique p q = answers-unique (λ a b k l. readings.measures-input-unique k l) p q
 
 pub sample-unique : (behaviour facts : ℕ) (steps high hysteresis : ℤ) {r s : ℕ} → YkSample behaviour facts steps high hysteresis r → YkSample behaviour facts steps high hysteresis s → r ≡ s
 sample-unique behaviour facts steps high hysteresis p q = answers-unique (λ a b k l. watch.samples-unique k l) p q

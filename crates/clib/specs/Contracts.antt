@@ -5,6 +5,7 @@ use mathlib.Core.List.{List}
 use lib.IntN.{ℤ}
 use Rattle.images.specs.Contracts as images
 use Rattle.identities.specs.Contracts as identities
+use Rattle.readings.specs.Readings.{asWord}
 use Rattle.readings.specs.Contracts as readings
 use Rattle.watch.specs.Contracts as watch
 use Rattle.plans.specs.Contracts as plans
@@ -38,6 +39,16 @@ YkBytes width steps r = Answers packsBytes (λ a. readings.GivesBytes width step
 
 abbrev pub YkMicrovolts : ℕ → ℕ → Type 0
 YkMicrovolts word r = Answers (λ v. packed 0 v) (λ v. readings.Measures word v) r
+
+-- a count of steps, as a 16-bit two's complement number
+abbrev pub YkRightSteps : ℕ → ℕ → ℕ → Type 0
+YkRightSteps high low r = Answers (λ n. packed 0 (asWord n)) (λ n. readings.CountsRight high low n) r
+
+abbrev pub YkRightBytes : ℤ → ℕ → Type 0
+YkRightBytes steps r = Answers packsBytes (λ a. readings.GivesRight steps a) r
+
+abbrev pub YkInputMicrovolts : ℕ → ℕ → ℕ → ℕ → Type 0
+YkInputMicrovolts input high low r = Answers (λ v. packed 0 v) (λ v. readings.MeasuresInput input high low v) r
 
 -- a refused sample answers the facts as they were
 abbrev pub YkSample : ℕ → ℕ → ℤ → ℤ → ℤ → ℕ → Type 0

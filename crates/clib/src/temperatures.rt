@@ -1,6 +1,6 @@
-// Temperatures of a width, and the NCT80's voltages.
+// Temperatures of a width and those of the NCT7904D, and the voltages of the NCT80 and the NCT7904D.
 use crate::packing;
-ghost use Rattle.clib.specs.Contracts.{YkSteps, YkBytes, YkMicrovolts};
+ghost use Rattle.clib.specs.Contracts.{YkSteps, YkBytes, YkMicrovolts, YkRightSteps, YkRightBytes, YkInputMicrovolts};
 
 #[no_mangle]
 pub extern "C" fn yk_steps(width: u8, high: u8, low: u8) -> u64
@@ -23,5 +23,30 @@ pub extern "C" fn yk_microvolts(word: u16) -> u64
     ensures { λ r. ⌜ YkMicrovolts word r ⌝ }
 {
     let microvolts = readings::microvolts(word);
+    packing::packed(0, microvolts as u64)
+}
+
+#[no_mangle]
+pub extern "C" fn yk_right_steps(high: u8, low: u8) -> u64
+    ensures { λ r. ⌜ YkRightSteps high low r ⌝ }
+{
+    let steps = readings::right_steps(high, low);
+    let word = readings::as_word(steps);
+    packing::packed(0, word as u64)
+}
+
+#[no_mangle]
+pub extern "C" fn yk_right_bytes(steps: i16) -> u64
+    ensures { λ r. ⌜ YkRightBytes steps r ⌝ }
+{
+    let bytes = readings::right_bytes(steps);
+    packing::of_bytes(bytes)
+}
+
+#[no_mangle]
+pub extern "C" fn yk_input_microvolts(input: u8, high: u8, low: u8) -> u64
+    ensures { λ r. ⌜ YkInputMicrovolts input high low r ⌝ }
+{
+    let microvolts = readings::input_microvolts(input, high, low);
     packing::packed(0, microvolts as u64)
 }

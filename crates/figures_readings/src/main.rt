@@ -1,5 +1,6 @@
 // Prints temperatures from bytes to steps, and from steps to bytes and back, at widths that there are and are not, those that an image holds, and
 // NCT80 voltages: `temperature width W bytes HHLL steps N`, `temperature width W steps N bytes HHLL steps N`, `voltage word HHLL microvolts N`.
+mod nct7904d;
 mod sensors;
 
 use readings::Bytes;
@@ -185,4 +186,5 @@ fn main() {
     temperatures();
     sensors::print_all();
     voltages();
+    nct7904d::print_all();
 }

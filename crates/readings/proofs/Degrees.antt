@@ -44,8 +44,19 @@ whole-word high h = by-sign (ltb high (2 ^ 7)) refl
 
 module _ (w : ℕ) (least : 8 ≤ w) (most : w ≤ 16) where
   -- a degree of the word is 2 ^ (16 - w) for each of its steps
-  degree : stepsPerDegree w * 2 ^ (16 - w) ≡ 2 ^ 8
+  pub degree : stepsPerDegree w * 2 ^ (16 - w) ≡ 2 ^ 8
   degree = ap (λ (n : ℕ). 2 ^ (w - 8) * 2 ^ n) (omega arith) ∙ parts (w - 8) 8 (omega arith)
+
+  -- a word without its 16 - w low bits: the high byte's steps, and the steps of the low byte
+  pub word-steps : (high low : ℕ) → wordOf high low / 2 ^ (16 - w) ≡ high * stepsPerDegree w + low / 2 ^ (16 - w)
+  word-steps high low =
+      let m : ℕ = 2 ^ (16 - w) in
+      let q : ℕ = low / m in
+      let top : ℕ = high * stepsPerDegree w in
+      let whole : q * m + low % m ≡ low = div-add-mod' low m in
+      let both : (top + q) * m ≡ wordOf high (q * m) = add-mul top q m ∙ ap (λ (n : ℕ). n + q * m) (mul-assoc high (stepsPerDegree w) m ∙ ap (λ (n : ℕ). high * n) degree) in
+      let word : wordOf high low ≡ (top + q) * m + low % m = omega arith in
+      ap (λ (n : ℕ). n / m) word ∙ digits-div (top + q) (mod-lt low (pow-pos (16 - w)))
 
   -- "The step is 1 degree at width 8, 1/2 at 9, 1/8 at 11 .., 1/16 at 12": where the low byte is 0, the high byte is whole degrees
   pub whole-degrees : (high : ℕ) → high < 2 ^ 8 → stepsAt w high 0 ≡ degreesOf high *ℤ pos (stepsPerDegree w)
@@ -66,14 +77,9 @@ module _ (w : ℕ) (least : 8 ≤ w) (most : w ≤ 16) where
   kept high low h =
       let m : ℕ = 2 ^ (16 - w) in
       let q : ℕ = low / m in
-      let top : ℕ = high * stepsPerDegree w in
-      let rest : low % m < m = mod-lt low (pow-pos (16 - w)) in
       let whole : q * m + low % m ≡ low = div-add-mod' low m in
-      let high-part : top * m ≡ high * 2 ^ 8 = mul-assoc high (stepsPerDegree w) m ∙ ap (λ (n : ℕ). high * n) degree in
-      let both : (top + q) * m ≡ wordOf high (q * m) = add-mul top q m ∙ ap (λ (n : ℕ). n + q * m) high-part in
-      let word : wordOf high low ≡ (top + q) * m + low % m = omega arith in
-      let quotient : wordOf high low / m ≡ top + q = ap (λ (n : ℕ). n / m) word ∙ digits-div (top + q) rest in
-      ap (λ (n : ℕ). bytesOf (n * m)) quotient ∙ ap bytesOf both ∙ bytes-word high (q * m) (omega arith) ∙ ap (λ (n : ℕ). (high, n)) (sym (low-masked low h))
+      let both : (high * stepsPerDegree w + q) * m ≡ wordOf high (q * m) = add-mul (high * stepsPerDegree w) q m ∙ ap (λ (n : ℕ). n + q * m) (mul-assoc high (stepsPerDegree w) m ∙ ap (λ (n : ℕ). high * n) degree) in
+      ap (λ (n : ℕ). bytesOf (n * m)) (word-steps high low) ∙ ap bytesOf both ∙ bytes-word high (q * m) (omega arith) ∙ ap (λ (n : ℕ). (high, n)) (sym (low-masked low h))
 
   -- the steps tell the high byte and exactly those bits of the low byte: "The other low bits are ignored on reading and written as zero"
   pub low-bits-told : (high low : ℕ) → high < 2 ^ 8 → low < 2 ^ 8 → bytesAt w (stepsAt w high low) ≡ (high, bitAnd low (lowBits w))

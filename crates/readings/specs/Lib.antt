@@ -1,3 +1,4 @@
 pub mod Readings
+pub mod Inputs
 pub mod Sensors
 pub mod Contracts

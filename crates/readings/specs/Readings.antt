@@ -1,9 +1,9 @@
--- "Readings": what a temperature of a width and an NCT80 voltage word stand for.
+-- "Readings": what a temperature of a width and an NCT80 voltage word stand for, and a temperature whose low bits stand elsewhere in the low byte.
 -- Assumes nothing.
 use Prim.Native.Nat.{ℕ, suc, _+_, _-_, _*_, _/_, _%_, _^_}
 use mathlib.Core.Bool.{Bool, _&&_, _||_, cond}
 use lib.Dec.{eqb, ltb}
-use lib.IntN.{ℤ, pos, negsuc, negℤ, _-ℤ_, _*ℤ_}
+use lib.IntN.{ℤ, pos, negsuc, negℤ, _+ℤ_, _-ℤ_, _*ℤ_}
 use lib.Signed.{leZ, ltZ}
 
 -- "the temperature width is not 8, 9, 11 or 12"
@@ -58,6 +58,22 @@ cleared w high low = bytesOf (wordOf high low / 2 ^ (16 - w) * 2 ^ (16 - w))
 -- a number of steps fits the width: a signed number of w bits
 abbrev pub fits : ℕ → ℤ → Bool
 fits w steps = leZ (negℤ (pos (2 ^ (w - 1)))) steps && ltZ steps (pos (2 ^ (w - 1)))
+
+-- Where the low bits stand elsewhere: the w - 8 bits that count lie in the low byte from the bit worth `unit` on, 2 ^ (16 - w) where they are
+-- left-aligned as above, 1 where they are right-aligned. At width 11 and unit 1 these are the words of the request for the NCT7904D: "temperature steps
+-- are 8 times the signed high byte plus the low byte's bits 2 to 0, the other low bits ignored and written as zero; both ways".
+abbrev pub lowCount : ℕ → ℕ → ℕ → ℕ
+lowCount w unit low = low / unit % stepsPerDegree w
+
+abbrev pub stepsFrom : ℕ → ℕ → ℕ → ℕ → ℤ
+stepsFrom w unit high low = degreesOf high *ℤ pos (stepsPerDegree w) +ℤ pos (lowCount w unit low)
+
+abbrev pub bytesFrom : ℕ → ℕ → ℤ → ℕ × ℕ
+bytesFrom w unit steps = (asWord steps / stepsPerDegree w % 2 ^ 8, asWord steps % stepsPerDegree w * unit)
+
+-- the bits of the low byte that count
+abbrev pub bitsFrom : ℕ → ℕ → ℕ
+bitsFrom w unit = stepsPerDegree w * unit - unit
 
 -- bits `upper` to `lower` of a word
 abbrev pub bits : ℕ → ℕ → ℕ → ℕ
