@@ -1,5 +1,7 @@
 pub mod Columns
 pub mod Every
+pub mod Pages
+pub mod BankRows
 pub mod Carried
 pub mod Sound
 pub mod Apart

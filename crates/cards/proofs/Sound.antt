@@ -10,7 +10,7 @@ use lib.Bits.{bitAnd}
 use lib.Dec.{eqb, leb, ltb}
 use lib.ListN.{length, getD, take}
 use Rattle.cards.specs.declared.types.Chip.{Chip}
-use Rattle.cards.specs.declared.types.Chip.the-variants.{Nct7802y, F75373s, Nct80}
+use Rattle.cards.specs.declared.types.Chip.the-variants.{Nct7802y, F75373s, Nct80, Nct7904d}
 use Rattle.cards.specs.declared.types.Layout.{Layout}
 use Rattle.cards.specs.declared.types.Required.{Required}
 use Rattle.cards.specs.declared.types.Shape.{Shape}
@@ -23,6 +23,12 @@ use Rattle.cards.specs.Identity.{allHold}
 use Rattle.cards.specs.Nct7802y as nct7802y
 use Rattle.cards.specs.F75373s as f75373s
 use Rattle.cards.specs.Nct80 as nct80
+use Rattle.cards.specs.Nct7904d as nct7904d
+use Rattle.cards.specs.Nct7904dBank0 as bank0
+use Rattle.cards.specs.Nct7904dBank1 as bank1
+use Rattle.cards.specs.Nct7904dBank2 as bank2
+use Rattle.cards.specs.Nct7904dBank3 as bank3
+use Rattle.cards.specs.Nct7904dBank4 as bank4
 use Rattle.cards.proofs.Every.{of-every, distinct}
 
 -- addresses rise from a least one on, and are those of an image
@@ -202,10 +208,11 @@ module _ (sheet : Sheet) (t : So (sound sheet)) where
 
 -- the only law that goes by the chip
 tested : (chip : Chip) → So (sound (sheetOf chip))
-unfolding sheetOf sound powerOnIn column nct7802y.card f75373s.card nct80.card
+unfolding sheetOf sound powerOnIn column nct7802y.card f75373s.card nct80.card nct7904d.card bank0.bank bank1.bank bank2.bank bank3.bank bank4.bank
 tested Nct7802y = refl
 tested F75373s = refl
 tested Nct80 = refl
+tested Nct7904d = refl
 
 pub sound-sheet : (chip : Chip) → Sound (sheetOf chip)
 sound-sheet chip = passes (sheetOf chip) (tested chip)

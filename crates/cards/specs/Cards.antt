@@ -7,7 +7,7 @@ use lib.Bits.{bitAnd}
 use lib.Dec.{eqb}
 use lib.ListN.{length, getD}
 use Rattle.cards.specs.declared.types.Chip.{Chip}
-use Rattle.cards.specs.declared.types.Chip.the-variants.{Nct7802y, F75373s, Nct80}
+use Rattle.cards.specs.declared.types.Chip.the-variants.{Nct7802y, F75373s, Nct80, Nct7904d}
 use Rattle.cards.specs.declared.types.Named.{Named}
 use Rattle.cards.specs.declared.types.Named.the-variants.{Known, Unknown}
 use Rattle.cards.specs.declared.types.Shape.{Shape}
@@ -20,15 +20,17 @@ use Rattle.cards.specs.Sheets.{Sheet, powerOnIn, missing, hasTableIn, ta
 use Rattle.cards.specs.Nct7802y as nct7802y
 use Rattle.cards.specs.F75373s as f75373s
 use Rattle.cards.specs.Nct80 as nct80
+use Rattle.cards.specs.Nct7904d as nct7904d
 
 -- The page of each chip. Beside the list of chips it is all that goes by the chip: everything else is read off a page.
 unfoldable pub sheetOf : Chip → Sheet
 sheetOf Nct7802y = nct7802y.sheet
 sheetOf F75373s = f75373s.sheet
 sheetOf Nct80 = nct80.sheet
+sheetOf Nct7904d = nct7904d.sheet
 
 abbrev pub chips : List Chip
-chips = Nct7802y ∷ F75373s ∷ Nct80 ∷ []
+chips = Nct7802y ∷ F75373s ∷ Nct80 ∷ Nct7904d ∷ []
 
 -- what the named chip gives, or what stands in where none is named
 abbrev pub whenKnown : {A : Type 0} → Named → (Chip → A) → A → A
@@ -51,7 +53,7 @@ abbrev pub tellsNamed : Named → ℕ × ℕ
 tellsNamed (Known chip) = (0, chipNumber chip)
 tellsNamed Unknown = (3, 0)
 
--- refusal 3: "the chip number is not 1, 2 or 3"
+-- refusal 3: "the chip number is not 1, 2 or 3", and "3 admits chip 4"
 abbrev pub unknown : ℕ → Bool
 unknown number = whenKnown (chipOf number) (λ chip. false) true
 
@@ -75,7 +77,7 @@ fitsAt chip position value = eqb (bitAnd value (rowOf chip position .writable)) 
 abbrev pub powerOn : Chip → List ℕ
 powerOn chip = powerOnIn (sheetOf chip)
 
--- refusal 4 goes by these: "chip 1: 1 to 3; chip 2: 1 and 2; chip 3: none"
+-- refusal 4 goes by these: "chip 1: 1 to 3; chip 2: 1 and 2; chip 3: none", and "4 counts its tables" of chip 4
 abbrev pub tablesOf : Chip → List Table
 tablesOf chip = sheetOf chip .tables
 
@@ -104,7 +106,7 @@ tellsFan Nothing = (4, layout oneBank [] missing)
 abbrev pub sizeOf : Chip → ℕ
 sizeOf chip = sheetOf chip .size
 
--- refusal 8: "a register image is not 256 bytes long", as each of the chips has it; a number that names no chip has been refused 3 before
+-- refusal 8: "a register image is not 256 bytes long"; of chip 4 "8 asks its own image length". A number that names no chip has been refused 3 before
 abbrev pub notOfSize : ℕ → ℕ → Bool
 notOfSize chip size = not (eqb size (whenKnown (chipOf chip) sizeOf 0))
 

@@ -19,10 +19,11 @@ use Rattle.cards.specs.Rows.{every, Line, Table, Reading, positions, row
 
 -- no image has more bytes
 abbrev pub greatest : ℕ
-greatest = 256
+greatest = 1280
 
 pub record Sheet : Type 0 where
-  -- "Chip 1 is the Nuvoton NCT7802Y (source document 000), chip 2 the Fintek F75373S (002), chip 3 the onsemi NCT80 (004)."
+  -- "Chip 1 is the Nuvoton NCT7802Y (source document 000), chip 2 the Fintek F75373S (002), chip 3 the onsemi NCT80 (004)"; the NCT7904D (003) is
+  -- "chip 4"
   pub number : ℕ
   -- how many bytes its image has
   pub size : ℕ

@@ -1,6 +1,7 @@
 // The chips, and what is known of each: a module for a chip has its page.
 mod f75373s;
 mod nct7802y;
+mod nct7904d;
 mod nct80;
 mod types;
 
@@ -21,7 +22,7 @@ pub use types::Sizes;
 ghost use Rattle.cards.specs.Contracts.{Names, Finds, PowersOn, TellsSizes, Requires, Lays, LaysOut, Stands, Selects, Positions};
 
 // How many bytes an image has at most.
-pub const GREATEST: usize = 256;
+pub const GREATEST: usize = 1280;
 
 // The chip of a chip number, and none for every other number.
 pub fn chip_of(number: u8) -> Named
@@ -31,6 +32,7 @@ pub fn chip_of(number: u8) -> Named
         1 => Named::Known(Chip::Nct7802y),
         2 => Named::Known(Chip::F75373s),
         3 => Named::Known(Chip::Nct80),
+        4 => Named::Known(Chip::Nct7904d),
         _ => Named::Unknown,
     }
 }
@@ -43,6 +45,7 @@ pub fn masks_of(chip: Chip, position: usize) -> Masks
         Chip::Nct7802y => nct7802y::masks(position),
         Chip::F75373s => f75373s::masks(position),
         Chip::Nct80 => nct80::masks(position),
+        Chip::Nct7904d => nct7904d::masks(position),
     }
 }
 
@@ -54,6 +57,7 @@ pub fn power_on_of(chip: Chip, position: usize) -> u8
         Chip::Nct7802y => nct7802y::power(position),
         Chip::F75373s => f75373s::power(position),
         Chip::Nct80 => nct80::power(position),
+        Chip::Nct7904d => nct7904d::power(position),
     }
 }
 
@@ -65,6 +69,7 @@ pub fn sizes_of(chip: Chip) -> Sizes
         Chip::Nct7802y => nct7802y::SIZES,
         Chip::F75373s => f75373s::SIZES,
         Chip::Nct80 => nct80::SIZES,
+        Chip::Nct7904d => nct7904d::SIZES,
     }
 }
 
@@ -76,6 +81,7 @@ pub fn required_of(chip: Chip, k: usize) -> Required
         Chip::Nct7802y => nct7802y::required(k),
         Chip::F75373s => f75373s::required(k),
         Chip::Nct80 => NOTHING,
+        Chip::Nct7904d => nct7904d::required(k),
     }
 }
 
@@ -87,6 +93,7 @@ pub fn table_of(chip: Chip, number: u8) -> Fan
         Chip::Nct7802y => nct7802y::table(number),
         Chip::F75373s => f75373s::table(number),
         Chip::Nct80 => Fan::Nothing,
+        Chip::Nct7904d => nct7904d::table(number),
     }
 }
 
@@ -108,6 +115,7 @@ pub fn register_of(chip: Chip, number: u8, k: usize) -> Register
         Chip::Nct7802y => nct7802y::register(number, k),
         Chip::F75373s => f75373s::register(number, k),
         Chip::Nct80 => NO_REGISTER,
+        Chip::Nct7904d => nct7904d::register(number, k),
     }
 }
 
@@ -119,6 +127,7 @@ pub fn selector_of(chip: Chip) -> Selector
         Chip::Nct7802y => ONE_BANK,
         Chip::F75373s => ONE_BANK,
         Chip::Nct80 => ONE_BANK,
+        Chip::Nct7904d => nct7904d::SELECTOR,
     }
 }
 
@@ -130,5 +139,6 @@ pub fn position_of(chip: Chip, bank: u8, address: u8) -> usize
         Chip::Nct7802y => address as usize,
         Chip::F75373s => address as usize,
         Chip::Nct80 => address as usize,
+        Chip::Nct7904d => nct7904d::position(bank, address),
     }
 }

@@ -9,6 +9,7 @@ pub enum Chip {
     Nct7802y,
     F75373s,
     Nct80,
+    Nct7904d,
 }
 
 // What a chip number names.

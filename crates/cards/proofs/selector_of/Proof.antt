@@ -1,18 +1,22 @@
 -- `cards::selector_of` meets its contract: each arm has what its page has.
 -- Assumes nothing.
 use Rattle.cards.specs.Cards.{sheetOf}
+use Rattle.cards.specs.Nct7904d.{card}
+use Rattle.cards.specs.Nct7904dBank0 as bank0
 use borrow.Author.Needs.{needs}
 use Rattle.cards.proofs.selector_of.Statement.{statement}
 use Rattle.cards.proofs.selector_of.Tie as tie
 
 pub selector-of-spec : {M : Type 1} → statement M
-unfolding sheetOf
+unfolding sheetOf card bank0.bank
 selector-of-spec =
     tie.close
     (tie.spec
     (λ c. search needs)
     (λ c. search needs)
     (λ c. search needs)
+    (λ c. search needs)
     (λ c. record { answer = simp (c .enum-told .given .1) })
     (λ c. record { answer = simp (c .enum-told2 .given .1) })
-    (λ c. record { answer = simp (c .enum-told3 .given .1) }))
+    (λ c. record { answer = simp (c .enum-told3 .given .1) })
+    (λ c. record { answer = simp (c .enum-told4 .given .1) }))

@@ -1,0 +1,20 @@
+-- `cards::nct7904d::required` meets its contract: its array is the identity of the page, by computation.
+-- Assumes nothing.
+use mathlib.Core.Path.{refl, sym}
+use lib.ListN.{List·getD-eq-default}
+use borrow.Author.Needs.{needs}
+use Rattle.cards.specs.declared.types.Chip.the-variants.{Nct7904d}
+use Rattle.cards.specs.Rows.{required}
+use Rattle.cards.specs.Cards.{sheetOf}
+use Rattle.cards.proofs.nct7904d.required.Statement.{statement}
+use Rattle.cards.proofs.nct7904d.required.Tie as tie
+
+pub required-spec : {M : Type 1} → statement M
+unfolding sheetOf
+required-spec =
+    tie.close
+    (tie.spec
+    (λ c. sym (List·getD-eq-default (sheetOf Nct7904d .identity) (required 0 0x00 0x00) (c .if1 .taken)))
+    (λ c. search needs)
+    (λ c. search needs)
+    (λ c. refl))

@@ -1,0 +1,23 @@
+-- `cards::nct7904d::table` meets its contract: the tables are laid out as the first.
+-- Assumes nothing.
+use native.Mathlib.Omega.{arith}
+use Rattle.cards.specs.declared.types.Chip.the-variants.{Nct7904d}
+use Rattle.cards.specs.Nct7904d.{card}
+use Rattle.cards.specs.Nct7904dBank0 as bank0
+use Rattle.cards.specs.Nct7904dBank1 as bank1
+use Rattle.cards.specs.Nct7904dBank2 as bank2
+use Rattle.cards.specs.Nct7904dBank3 as bank3
+use Rattle.cards.specs.Nct7904dBank4 as bank4
+use Rattle.cards.specs.Cards.{sheetOf}
+use Rattle.cards.proofs.Tables.{laid-first, none-laid}
+use Rattle.cards.proofs.nct7904d.table.Statement.{statement}
+use Rattle.cards.proofs.nct7904d.table.Tie as tie
+
+pub table-spec : {M : Type 1} → statement M
+unfolding sheetOf card bank0.bank bank1.bank bank2.bank bank3.bank bank4.bank
+table-spec =
+    tie.close
+    (tie.spec
+    (λ c. laid-first Nct7904d (c .before .before .args .number) (omega arith) (omega arith))
+    (λ c. none-laid Nct7904d (c .before .args .number) (λ p q. omega arith))
+    (λ c. none-laid Nct7904d (c .before .before .args .number) (λ p q. omega arith)))
