@@ -4,7 +4,7 @@ use Prim.Native.Nat.{ℕ}
 use mathlib.Core.Path.{_≡_, sym, _∙_}
 use mathlib.Core.Bool.{Bool}
 use mathlib.Core.List.{List}
-use Rattle.cards.specs.declared.types.Shape.{Shape}
+use Rattle.pages.specs.declared.Shape.{Shape}
 use Rattle.curves.specs.declared.Plan.{Plan}
 use Rattle.bodies.specs.Contracts.{Decodes, EncodesBody}
 

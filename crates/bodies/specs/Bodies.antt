@@ -4,9 +4,9 @@ use Prim.Native.Nat.{ℕ}
 use mathlib.Core.Bool.{Bool, cond}
 use mathlib.Core.List.{List, _∷_, _++_}
 use lib.ListN.{getD}
-use Rattle.cards.specs.declared.types.Shape.{Shape}
-use Rattle.cards.specs.declared.types.Shape.the-variants.{Slope, Steps}
-use Rattle.cards.specs.Rows.{from}
+use Rattle.pages.specs.declared.Shape.{Shape}
+use Rattle.pages.specs.declared.Shape.the-variants.{Slope, Steps}
+use Rattle.pages.specs.Rows.{from}
 use Rattle.curves.specs.declared.SlopeValues.{SlopeValues}
 use Rattle.curves.specs.declared.StepValues.{StepValues}
 use Rattle.curves.specs.declared.Plan.{Plan}

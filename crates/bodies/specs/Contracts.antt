@@ -5,8 +5,8 @@ use mathlib.Core.Path.{_≡_}
 use mathlib.Core.Bool.{Bool}
 use mathlib.Core.List.{List}
 use lib.ListN.{getD}
-use Rattle.cards.specs.declared.types.Shape.{Shape}
-use Rattle.cards.specs.Rows.{column}
+use Rattle.pages.specs.declared.Shape.{Shape}
+use Rattle.pages.specs.Rows.{column}
 use Rattle.curves.specs.declared.Plan.{Plan}
 use Rattle.bodies.specs.Bodies.{bodyOf, decoded}
 

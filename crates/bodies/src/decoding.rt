@@ -4,7 +4,7 @@ use curves::SlopeValues;
 use curves::StepValues;
 ghost use mathlib.Core.Path.{_≡_};
 ghost use Prim.Native.Nat.{_+_, _*_, _≤_};
-ghost use Rattle.cards.specs.Rows.{from};
+ghost use Rattle.pages.specs.Rows.{from};
 ghost use Rattle.curves.specs.Curves.{words};
 ghost use Rattle.curves.specs.Planned.{valuesAt};
 ghost use Rattle.bodies.specs.Bodies.{slopeIn, stepsIn};

@@ -4,7 +4,7 @@ ghost use Prim.Native.Nat.{_/_, _%_};
 ghost use mathlib.Core.Path.{_≡_};
 ghost use mathlib.Core.List.{[], _∷_, _++_};
 ghost use lib.ListN.{getD};
-ghost use Rattle.cards.specs.Rows.{column};
+ghost use Rattle.pages.specs.Rows.{column};
 ghost use Rattle.curves.specs.Curves.{halves};
 
 // T1 to T4, critical, FL1 to FL4.

@@ -2,10 +2,10 @@
 mod decoding;
 mod encoding;
 
-use cards::Shape;
 use curves::NO_SLOPE;
 use curves::NO_STEPS;
 use curves::Plan;
+use pages::Shape;
 ghost use Rattle.bodies.specs.Contracts.{Decodes, EncodesBody};
 
 // No body has more bytes.

@@ -1,15 +1,2 @@
-pub mod Columns
-pub mod Every
-pub mod Pages
-pub mod BankRows
-pub mod Carried
-pub mod Sound
-pub mod Apart
-pub mod Lines
-pub mod FixedPoints
-pub mod Registers
-pub mod Tables
-pub mod Numbers
 pub mod Told
 pub mod Unique
-pub mod Selectors

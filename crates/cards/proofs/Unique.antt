@@ -2,15 +2,15 @@
 -- Assumes nothing.
 use Prim.Native.Nat.{ℕ}
 use mathlib.Core.Path.{_≡_, sym, _∙_}
-use Rattle.cards.specs.declared.types.Chip.{Chip}
-use Rattle.cards.specs.declared.types.Named.{Named}
-use Rattle.cards.specs.declared.types.Fan.{Fan}
-use Rattle.cards.specs.declared.types.Layout.{Layout}
-use Rattle.cards.specs.declared.types.Masks.{Masks}
-use Rattle.cards.specs.declared.types.Register.{Register}
-use Rattle.cards.specs.declared.types.Required.{Required}
-use Rattle.cards.specs.declared.types.Selector.{Selector}
-use Rattle.cards.specs.declared.types.Sizes.{Sizes}
+use Rattle.pages.specs.declared.Chip.{Chip}
+use Rattle.pages.specs.declared.Named.{Named}
+use Rattle.pages.specs.declared.Fan.{Fan}
+use Rattle.pages.specs.declared.Layout.{Layout}
+use Rattle.pages.specs.declared.Masks.{Masks}
+use Rattle.pages.specs.declared.Register.{Register}
+use Rattle.pages.specs.declared.Required.{Required}
+use Rattle.pages.specs.declared.Selector.{Selector}
+use Rattle.pages.specs.declared.Sizes.{Sizes}
 use Rattle.cards.specs.Contracts.{Names, Finds, PowersOn, TellsSizes, Requires, Lays, LaysOut, Stands, Selects, Positions}
 
 pub names-unique : {number : ℕ} {r s : Named} → Names number r → Names number s → r ≡ s

@@ -2,19 +2,19 @@
 -- Assumes nothing.
 use Prim.Native.Nat.{ℕ}
 use mathlib.Core.Path.{_≡_}
-use Rattle.cards.specs.declared.types.Chip.{Chip}
-use Rattle.cards.specs.declared.types.Named.{Named}
-use Rattle.cards.specs.declared.types.Masks.{Masks}
-use Rattle.cards.specs.declared.types.Register.{Register}
-use Rattle.cards.specs.declared.types.Required.{Required}
-use Rattle.cards.specs.declared.types.Selector.{Selector}
-use Rattle.cards.specs.declared.types.Sizes.{Sizes}
-use Rattle.cards.specs.declared.types.Fan.{Fan}
-use Rattle.cards.specs.declared.types.Layout.{Layout}
-use Rattle.cards.specs.Banks.{standsIn}
-use Rattle.cards.specs.Rows.{masksIn, requiredIn}
-use Rattle.cards.specs.Sheets.{sizesIn, laidIn, registerIn, selectorIn}
-use Rattle.cards.specs.Cards.{sheetOf, chipOf, banksOf, rowOf, layoutOf}
+use Rattle.pages.specs.declared.Chip.{Chip}
+use Rattle.pages.specs.declared.Named.{Named}
+use Rattle.pages.specs.declared.Masks.{Masks}
+use Rattle.pages.specs.declared.Register.{Register}
+use Rattle.pages.specs.declared.Required.{Required}
+use Rattle.pages.specs.declared.Selector.{Selector}
+use Rattle.pages.specs.declared.Sizes.{Sizes}
+use Rattle.pages.specs.declared.Fan.{Fan}
+use Rattle.pages.specs.declared.Layout.{Layout}
+use Rattle.pages.specs.Banks.{standsIn}
+use Rattle.pages.specs.Rows.{masksIn, requiredIn}
+use Rattle.pages.specs.Sheets.{sizesIn, laidIn, registerIn, selectorIn}
+use Rattle.pages.specs.Cards.{sheetOf, chipOf, banksOf, rowOf, layoutOf}
 
 -- what `cards::chip_of` promises
 pub record Names (number : ℕ) (named : Named) : Type 0 where

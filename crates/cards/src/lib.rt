@@ -1,24 +1,23 @@
-// The chips, and what is known of each: a module for a chip has its page.
+// What the chips' pages say, looked up: a module for a chip.
 mod f75373s;
 mod nct7802y;
 mod nct7904d;
 mod nct80;
 mod types;
 
-pub use types::Chip;
-pub use types::Fan;
-pub use types::Layout;
+use pages::Chip;
+use pages::Fan;
+use pages::Layout;
+use pages::Masks;
+use pages::Named;
+use pages::Register;
+use pages::Required;
+use pages::Selector;
+use pages::Sizes;
 use types::MISSING;
-pub use types::Masks;
 use types::NO_REGISTER;
 use types::NOTHING;
-pub use types::Named;
 use types::ONE_BANK;
-pub use types::Register;
-pub use types::Required;
-pub use types::Selector;
-pub use types::Shape;
-pub use types::Sizes;
 ghost use Rattle.cards.specs.Contracts.{Names, Finds, PowersOn, TellsSizes, Requires, Lays, LaysOut, Stands, Selects, Positions};
 
 // How many bytes an image has at most.

@@ -2,24 +2,24 @@
 mod power_on;
 mod writable;
 
-use crate::types::Fan;
-use crate::types::Layout;
-use crate::types::Masks;
 use crate::types::NO_MASKS;
 use crate::types::NO_REGISTER;
 use crate::types::NOTHING;
-use crate::types::Register;
-use crate::types::Required;
-use crate::types::Shape;
-use crate::types::Sizes;
 use crate::types::in_a_row;
+use pages::Fan;
+use pages::Layout;
+use pages::Masks;
+use pages::Register;
+use pages::Required;
+use pages::Shape;
+use pages::Sizes;
 use power_on::POWER_ON;
 use writable::WRITABLE;
 ghost use mathlib.Core.Path.{_≡_};
-ghost use Rattle.cards.specs.declared.types.Chip.the-variants.{Nct7802y};
-ghost use Rattle.cards.specs.Cards.{sheetOf, rowOf};
-ghost use Rattle.cards.specs.Rows.{masksIn, requiredIn};
-ghost use Rattle.cards.specs.Sheets.{laidIn, registerIn};
+ghost use Rattle.pages.specs.declared.Chip.the-variants.{Nct7802y};
+ghost use Rattle.pages.specs.Cards.{sheetOf, rowOf};
+ghost use Rattle.pages.specs.Rows.{masksIn, requiredIn};
+ghost use Rattle.pages.specs.Sheets.{laidIn, registerIn};
 
 const SIZE: usize = 256;
 

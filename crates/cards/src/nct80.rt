@@ -2,15 +2,15 @@
 mod power_on;
 mod writable;
 
-use crate::types::Masks;
 use crate::types::NO_MASKS;
-use crate::types::Sizes;
+use pages::Masks;
+use pages::Sizes;
 use power_on::POWER_ON;
 use writable::WRITABLE;
 ghost use mathlib.Core.Path.{_≡_};
-ghost use Rattle.cards.specs.declared.types.Chip.the-variants.{Nct80};
-ghost use Rattle.cards.specs.Cards.{rowOf};
-ghost use Rattle.cards.specs.Rows.{masksIn};
+ghost use Rattle.pages.specs.declared.Chip.the-variants.{Nct80};
+ghost use Rattle.pages.specs.Cards.{rowOf};
+ghost use Rattle.pages.specs.Rows.{masksIn};
 
 const SIZE: usize = 256;
 

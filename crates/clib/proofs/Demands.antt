@@ -11,18 +11,18 @@ use Rattle.refusal.specs.declared.Outcome.the-variants.{Accepted}
 use Rattle.refusal.specs.Refusals.{numberOf}
 use Rattle.refusal.specs.Checks.{first, toldOr, told}
 use Rattle.refusal.proofs.Passed.{told-passed, told-refused, all-passed}
-use Rattle.cards.specs.declared.types.Chip.{Chip}
-use Rattle.cards.specs.declared.types.Named.{Named}
-use Rattle.cards.specs.declared.types.Named.the-variants.{Known}
-use Rattle.cards.specs.declared.types.Fan.{Fan}
-use Rattle.cards.specs.declared.types.Layout.{Layout}
-use Rattle.cards.specs.Rows.{masksIn, requiredIn, column}
-use Rattle.cards.specs.Banks.{oneBank, standsIn}
-use Rattle.cards.specs.Sheets.{sizesIn, missing, layout, registerIn, selectorIn}
-use Rattle.cards.specs.Cards.{sheetOf, banksOf, chipOf, chipNumber, unknown, hasTable, rowOf, layoutOf, tellsNamed, tellsFan}
+use Rattle.pages.specs.declared.Chip.{Chip}
+use Rattle.pages.specs.declared.Named.{Named}
+use Rattle.pages.specs.declared.Named.the-variants.{Known}
+use Rattle.pages.specs.declared.Fan.{Fan}
+use Rattle.pages.specs.declared.Layout.{Layout}
+use Rattle.pages.specs.Rows.{masksIn, requiredIn, column}
+use Rattle.pages.specs.Banks.{oneBank, standsIn}
+use Rattle.pages.specs.Sheets.{sizesIn, missing, layout, registerIn, selectorIn}
+use Rattle.pages.specs.Cards.{sheetOf, banksOf, chipOf, chipNumber, unknown, hasTable, rowOf, layoutOf, tellsNamed, tellsFan}
 use Rattle.cards.specs.Contracts.{Names, Lays}
 use Rattle.cards.proofs.Told.{names-told, lays-told}
-use Rattle.cards.specs.Identity.{confirmed}
+use Rattle.pages.specs.Identity.{confirmed}
 use Rattle.images.specs.declared.Admitted.{Admitted}
 use Rattle.images.specs.declared.Admitted.the-variants as admitted
 use Rattle.images.specs.Bytes.{storedAt}

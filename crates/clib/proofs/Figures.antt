@@ -10,16 +10,22 @@ use lib.Dec.{eqb}
 use lib.IntN.{ℤ, pos, negℤ}
 use lib.ListN.{length, replicate}
 use Rattle.refusal.specs.Checks.{first, told, toldOr, roomChecks}
-use Rattle.cards.specs.Cards.{sheetOf, chipOf, whenKnown, rowOf, shapeOf}
-use Rattle.cards.specs.Nct7802y as nct7802y
-use Rattle.cards.specs.F75373s as f75373s
-use Rattle.cards.specs.Identity.{confirmed}
+use Rattle.pages.specs.Cards.{sheetOf, chipOf, whenKnown, rowOf, shapeOf}
+use Rattle.pages.specs.Nct7802y as nct7802y
+use Rattle.pages.specs.F75373s as f75373s
+use Rattle.pages.specs.Nct7904d as nct7904d
+use Rattle.pages.specs.Nct7904dBank0 as bank0
+use Rattle.pages.specs.Nct7904dBank1 as bank1
+use Rattle.pages.specs.Nct7904dBank2 as bank2
+use Rattle.pages.specs.Nct7904dBank3 as bank3
+use Rattle.pages.specs.Nct7904dBank4 as bank4
+use Rattle.pages.specs.Identity.{confirmed}
 use Rattle.curves.specs.declared.Plan.{Plan}
 use Rattle.curves.specs.Curves as curves
 use Rattle.curves.specs.Planned.{asks}
 use Rattle.plans.specs.Plans.{held, temperaturesPass, speedsPass}
 use Rattle.plans.specs.Contracts.{askImageChecks}
-use Rattle.images.specs.Bytes.{position, seen}
+use Rattle.images.specs.Bytes.{selected, position, seen}
 use Rattle.images.specs.Contracts.{imageChecks}
 use Rattle.identities.specs.Contracts.{identityChecks}
 use Rattle.readings.specs.Readings as readings
@@ -145,6 +151,10 @@ image = replicate 256 0x5A
 abbrev imageOf2 : List ℕ
 imageOf2 = replicate 0x5A 0 ++ (0x02 ∷ 0x04 ∷ 0x00 ∷ 0x19 ∷ 0x34 ∷ replicate 161 0)
 
+-- bank 0 holds 11h and the others 22h
+abbrev imageOf4 : ℕ → List ℕ
+imageOf4 select = replicate 0xFF 0x11 ++ (select ∷ replicate 1024 0x22)
+
 unfoldable pub figures : List Figure
 figures =
     -- "YK_DEFAULT = 0, YK_ONE_TIME = 1, YK_COMPARATOR = 2", "Any other number counts as comparator": a new watch at 81 degrees, then a hot one that was
@@ -216,15 +226,25 @@ figures =
     ∷ (inputMicrovolts 0x40 0x19 0x06, 256 * 412000)
     ∷ (inputMicrovolts 0x5C 0x19 0x06, 256 * 1236000)
     ∷ (inputMicrovolts 0x62 0x19 0x06, 0)
-    -- "the byte"; 4 is no chip; "Chip 3 is never confirmed"
+    -- "the byte"; 5 is no chip; chip 4's image is longer; "Chip 3 is never confirmed"
     ∷ (read 1 image 0, 0x5A00)
-    ∷ (read 4 image 0, 0x0003)
+    ∷ (read 5 image 0, 0x0003)
+    ∷ (read 4 image 0, 0x0008)
+    -- bits 2 to 0 of FFh select bank 3, and 7Ah and FFh are seen there; with code 6 only they answer
+    ∷ (read 4 (imageOf4 0x83) 0x20, 0x2200)
+    ∷ (read 4 (imageOf4 0x83) 0x7A, 0x1100)
+    ∷ (read 4 (imageOf4 0x83) 0xFF, 0x8300)
+    ∷ (read 4 (imageOf4 0x86) 0x20, 0x0000)
+    ∷ (read 4 (imageOf4 0x86) 0x7A, 0x1100)
     ∷ (identity 2 imageOf2, 0x0000)
     ∷ (identity 3 image, 0x000A)
     -- "used + 256 * chip + 65536 * table": the paper's record, one of chip 2, and one without its mark
     ∷ (readRecord (0x43 ∷ 0x50 ∷ 1 ∷ 3 ∷ 0x1E ∷ 0x28 ∷ 0x32 ∷ 0x37 ∷ 0x3C ∷ 0x8C ∷ 0xAA ∷ 0xC8 ∷ 0xE6 ∷ []), 0x03010D00)
     ∷ (readRecord (0x43 ∷ 0x50 ∷ 2 ∷ 1 ∷ 0x3C ∷ 0x32 ∷ 0x28 ∷ 0x1E ∷ 1 ∷ 0xFF ∷ 2 ∷ 0 ∷ 3 ∷ 0 ∷ 8 ∷ 0 ∷ 0xFF ∷ 0xFF ∷ []), 0x01021200)
     ∷ (readRecord (0x50 ∷ 0x43 ∷ 2 ∷ 1 ∷ []), 0x00000002)
+    -- of chip 4, whose body has critical first: in order, and with the two exchanged
+    ∷ (readRecord (0x43 ∷ 0x50 ∷ 4 ∷ 10 ∷ 0x7F ∷ 0xEC ∷ 0x00 ∷ 0x14 ∷ 0x32 ∷ 0x00 ∷ 0x40 ∷ 0x80 ∷ 0xFF ∷ []), 0x0A040D00)
+    ∷ (readRecord (0x43 ∷ 0x50 ∷ 4 ∷ 10 ∷ 0xEC ∷ 0x00 ∷ 0x14 ∷ 0x32 ∷ 0x7F ∷ 0x00 ∷ 0x40 ∷ 0x80 ∷ 0xFF ∷ []), 0x00000006)
     -- "the duty or count"; "chip 3 has no fan table"
     ∷ (askedOfImage 1 1 image 0x5A, 0xFF00)
     ∷ (askedOfImage 2 1 image 0x5B, 0x5A5A00)
@@ -235,5 +255,5 @@ figures =
     ∷ []
 
 pub figures-hold : AllHold figures
-unfolding sheetOf rowOf agree figures factsOf position temperaturesPass speedsPass nct7802y.card f75373s.card confirmed curves.words curves.halves curves.slope curves.stepRule textOf endLine decimal
+unfolding sheetOf rowOf agree figures factsOf position selected temperaturesPass speedsPass nct7802y.card f75373s.card nct7904d.card bank0.bank bank1.bank bank2.bank bank3.bank bank4.bank confirmed curves.words curves.halves curves.slope curves.stepRule textOf endLine decimal
 figures-hold = each figures refl

@@ -11,9 +11,9 @@ use lib.ListN.{length}
 use Rattle.refusal.specs.declared.Amount.{Amount}
 use Rattle.refusal.specs.Answers.{tellsAmount}
 use Rattle.refusal.specs.Checks.{Check, first, told, roomChecks}
-use Rattle.cards.specs.declared.types.Named.{Named}
-use Rattle.cards.specs.declared.types.Named.the-variants.{Known, Unknown}
-use Rattle.cards.specs.Cards.{chipOf, whenKnown}
+use Rattle.pages.specs.declared.Named.{Named}
+use Rattle.pages.specs.declared.Named.the-variants.{Known, Unknown}
+use Rattle.pages.specs.Cards.{chipOf, whenKnown}
 use Rattle.curves.specs.declared.Plan.{Plan}
 use Rattle.curves.specs.Values.{Sized}
 use Rattle.records.specs.Records.{encoded, recordLength, chipNumberIn}

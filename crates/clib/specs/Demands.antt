@@ -14,17 +14,17 @@ use Rattle.refusal.specs.declared.Amount.the-variants.{Of}
 use Rattle.refusal.specs.Contracts.{Numbers}
 use Rattle.refusal.specs.Answers.{tells, tellsAmount}
 use Rattle.refusal.specs.Checks.{Check, first, roomChecks}
-use Rattle.cards.specs.declared.types.Chip.{Chip}
-use Rattle.cards.specs.declared.types.Named.{Named}
-use Rattle.cards.specs.declared.types.Named.the-variants.{Known}
-use Rattle.cards.specs.declared.types.Fan.{Fan}
-use Rattle.cards.specs.declared.types.Register.{Register}
-use Rattle.cards.specs.declared.types.Shape.{Shape}
-use Rattle.cards.specs.Banks.{oneBank}
-use Rattle.cards.specs.Sheets.{missing, layout}
-use Rattle.cards.specs.Cards.{chipOf, unknown, hasTable, tellsNamed, tellsFan}
+use Rattle.pages.specs.declared.Chip.{Chip}
+use Rattle.pages.specs.declared.Named.{Named}
+use Rattle.pages.specs.declared.Named.the-variants.{Known}
+use Rattle.pages.specs.declared.Fan.{Fan}
+use Rattle.pages.specs.declared.Register.{Register}
+use Rattle.pages.specs.declared.Shape.{Shape}
+use Rattle.pages.specs.Banks.{oneBank}
+use Rattle.pages.specs.Sheets.{missing, layout}
+use Rattle.pages.specs.Cards.{chipOf, unknown, hasTable, tellsNamed, tellsFan}
 use Rattle.cards.specs.Contracts.{Names, Finds, PowersOn, TellsSizes, Requires, Lays, LaysOut, Stands, Selects, Positions}
-use Rattle.cards.specs.Identity.{confirmed}
+use Rattle.pages.specs.Identity.{confirmed}
 use Rattle.images.specs.declared.Admitted.{Admitted}
 use Rattle.images.specs.declared.ByteRead.{ByteRead}
 use Rattle.images.specs.Contracts as images

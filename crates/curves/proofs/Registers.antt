@@ -6,8 +6,8 @@ use mathlib.Core.Path.{_≡_, refl, sym, ap, _∙_}
 use mathlib.Core.List.{List, [], _∷_, map}
 use lib.ListN.{length, getD, take, drop}
 use lib.Seq.{drop-cons, take-all, take-at, getD-at}
-use Rattle.cards.specs.Rows.{from}
-use Rattle.cards.specs.declared.types.Shape.the-variants.{Slope, Steps}
+use Rattle.pages.specs.Rows.{from}
+use Rattle.pages.specs.declared.Shape.the-variants.{Slope, Steps}
 use Rattle.curves.specs.declared.Plan.{Plan}
 use Rattle.curves.specs.Curves.{degree, points, slope, stepRule}
 use Rattle.curves.specs.Planned.{planned, valuesAt, asks}

@@ -3,7 +3,7 @@
 use Prim.Native.Nat.{ℕ}
 use mathlib.Core.Path.{_≡_}
 use mathlib.Core.Bool.{Bool}
-use Rattle.cards.specs.declared.types.Shape.{Shape}
+use Rattle.pages.specs.declared.Shape.{Shape}
 use Rattle.curves.specs.declared.Plan.{Plan}
 use Rattle.curves.specs.Planned.{planned, asks, temperaturesInOrder, speedsInOrder, fullOf}
 

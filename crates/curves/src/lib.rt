@@ -4,7 +4,7 @@ mod orders;
 mod slope;
 mod steps;
 
-use cards::Shape;
+use pages::Shape;
 ghost use Rattle.curves.specs.Contracts.{Asks, OrdersTemperatures, OrdersSpeeds, Raises};
 
 // The values of a slope: T1 to T4, critical, FL1 to FL4. Temperatures are bytes as their registers hold them, in two's complement.

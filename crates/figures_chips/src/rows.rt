@@ -1,6 +1,6 @@
 // Every row of every card: `row C AA WW CC PP`.
-use cards::Chip;
-use cards::Named;
+use pages::Chip;
+use pages::Named;
 
 fn column(b: u8) {
     figures_printing::space();

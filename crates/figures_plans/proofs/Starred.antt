@@ -6,9 +6,9 @@ use mathlib.Core.Bool.{Bool, true, false}
 use mathlib.Core.List.{List, [], _∷_}
 use lib.IntN.{ℤ, pos, negℤ}
 use Rattle.refusal.specs.Checks.{first, toldOr}
-use Rattle.cards.specs.declared.types.Chip.{Chip}
-use Rattle.cards.specs.declared.types.Chip.the-variants.{Nct7802y, F75373s}
-use Rattle.cards.specs.Cards.{sheetOf, shapeOf}
+use Rattle.pages.specs.declared.Chip.{Chip}
+use Rattle.pages.specs.declared.Chip.the-variants.{Nct7802y, F75373s}
+use Rattle.pages.specs.Cards.{sheetOf, shapeOf}
 use Rattle.readings.specs.Readings.{bytesOf, stepsAt}
 use Rattle.readings.specs.Contracts.{stepsChecks, bytesChecks}
 use Rattle.watch.specs.declared.Behaviour.{Behaviour}

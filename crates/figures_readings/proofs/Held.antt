@@ -10,10 +10,10 @@ use lib.IntN.{ℤ}
 use lib.ListN.{getD}
 use Rattle.refusal.specs.Checks.{first}
 use Rattle.refusal.proofs.Passed.{all-passed, when-passed}
-use Rattle.cards.specs.declared.types.Named.{Named}
-use Rattle.cards.specs.Rows.{Reading}
-use Rattle.cards.specs.Cards.{chipOf, whenKnown}
-use Rattle.cards.proofs.Numbers.{chip-known}
+use Rattle.pages.specs.declared.Named.{Named}
+use Rattle.pages.specs.Rows.{Reading}
+use Rattle.pages.specs.Cards.{chipOf, whenKnown}
+use Rattle.pages.proofs.Numbers.{chip-known}
 use Rattle.images.specs.declared.ByteRead.the-variants.{Byte}
 use Rattle.images.specs.Bytes.{seen}
 use Rattle.images.specs.Contracts.{imageChecks, ReadsByte}

@@ -1,7 +1,7 @@
 -- Where the lines on a chip's own temperatures read them: where the chip's page says that they stand.
 -- Assumes nothing.
 use Prim.Native.Nat.{ℕ}
-use Rattle.cards.specs.Rows.{Reading}
+use Rattle.pages.specs.Rows.{Reading}
 use Rattle.readings.specs.Sensors.{highAt}
 use Rattle.figures_readings.specs.declared.sensors.Sensor.{Sensor}
 

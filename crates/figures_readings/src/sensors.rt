@@ -3,8 +3,8 @@ use figures_printing::FILL;
 use images::ByteRead;
 ghost use Prim.Native.Nat.{_<_};
 ghost use mathlib.Core.Path.{_≡_};
-ghost use Rattle.cards.specs.Nct7802y as nct7802y;
-ghost use Rattle.cards.specs.Nct80 as nct80;
+ghost use Rattle.pages.specs.Nct7802y as nct7802y;
+ghost use Rattle.pages.specs.Nct80 as nct80;
 ghost use Rattle.figures_readings.specs.Sensors.{sensorOf};
 
 // Where a sensor's temperature stands.

@@ -9,13 +9,13 @@ use mathlib.Core.List.{List, [], _∷_}
 use borrow.Author.Tests.{lt-ltb, ltb-true}
 use lib.Dec.{ltb}
 use lib.ListN.{length, take}
-use Rattle.cards.specs.declared.types.Chip.{Chip}
-use Rattle.cards.specs.declared.types.Required.{Required}
-use Rattle.cards.specs.Rows.{requiredIn}
-use Rattle.cards.specs.Cards.{sheetOf, sizeOf}
-use Rattle.cards.specs.Identity.{holds, allHold, agrees}
-use Rattle.cards.proofs.Every.{both, of-every}
-use Rattle.cards.proofs.Sound.{lasting, sound-sheet}
+use Rattle.pages.specs.declared.Chip.{Chip}
+use Rattle.pages.specs.declared.Required.{Required}
+use Rattle.pages.specs.Rows.{requiredIn}
+use Rattle.pages.specs.Cards.{sheetOf, sizeOf}
+use Rattle.pages.specs.Identity.{holds, allHold, agrees}
+use Rattle.pages.proofs.Every.{both, of-every}
+use Rattle.pages.proofs.Sound.{lasting, sound-sheet}
 
 -- identity looks inside the image
 pub inside : (chip : Chip) (k : ℕ) → k < length (sheetOf chip .identity) → requiredIn (sheetOf chip .identity) k .position < sizeOf chip

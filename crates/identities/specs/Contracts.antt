@@ -6,7 +6,7 @@ use mathlib.Core.List.{List, [], _∷_}
 use Rattle.refusal.specs.declared.Outcome.{Outcome}
 use Rattle.refusal.specs.Answers.{tells}
 use Rattle.refusal.specs.Checks.{Check, first}
-use Rattle.cards.specs.Cards.{unknown, notAnImage}
+use Rattle.pages.specs.Cards.{unknown, notAnImage}
 use Rattle.identities.specs.Identities.{unconfirmed}
 
 -- "identity 3, 8 and 10"

@@ -3,8 +3,8 @@
 use Prim.Native.Nat.{ℕ}
 use mathlib.Core.Bool.{Bool, false, not}
 use mathlib.Core.List.{List}
-use Rattle.cards.specs.Cards.{chipOf, whenKnown}
-use Rattle.cards.specs.Identity.{confirmed}
+use Rattle.pages.specs.Cards.{chipOf, whenKnown}
+use Rattle.pages.specs.Identity.{confirmed}
 
 -- refusal 10: "identity is not confirmed"
 abbrev pub unconfirmed : ℕ → List ℕ → Bool

@@ -1,14 +1,14 @@
 // Whose an image is: every register that the chip's identity names is asked.
-use cards::Chip;
-use cards::Required;
 use images::Admitted;
+use pages::Chip;
+use pages::Required;
 use refusal::Outcome;
 use refusal::Refusal;
 ghost use Prim.Native.Nat.{_<_};
 ghost use mathlib.Core.Path.{_≡_};
 ghost use lib.ListN.{length};
-ghost use Rattle.cards.specs.Cards.{sizeOf};
-ghost use Rattle.cards.specs.Identity.{holds, confirmed};
+ghost use Rattle.pages.specs.Cards.{sizeOf};
+ghost use Rattle.pages.specs.Identity.{holds, confirmed};
 ghost use Rattle.identities.specs.Contracts.{Confirms};
 
 fn holds(image: &[u8], required: Required) -> bool

@@ -13,11 +13,11 @@ use Rattle.refusal.specs.declared.Refusal.the-variants.{NoSuchChip, NotAnImage}
 use Rattle.refusal.specs.Refusals.{numberOf}
 use Rattle.refusal.specs.Checks.{first, told}
 use Rattle.refusal.proofs.Passed.{told-passed, told-refused}
-use Rattle.cards.specs.declared.types.Chip.{Chip}
-use Rattle.cards.specs.declared.types.Named.{Named}
-use Rattle.cards.specs.declared.types.Named.the-variants as named
-use Rattle.cards.specs.Cards.{chipOf, whenKnown, sizeOf}
-use Rattle.cards.proofs.Numbers.{chip-number}
+use Rattle.pages.specs.declared.Chip.{Chip}
+use Rattle.pages.specs.declared.Named.{Named}
+use Rattle.pages.specs.declared.Named.the-variants as named
+use Rattle.pages.specs.Cards.{chipOf, whenKnown, sizeOf}
+use Rattle.pages.proofs.Numbers.{chip-number}
 use Rattle.images.specs.declared.Admitted.{Admitted}
 use Rattle.images.specs.declared.Admitted.the-variants.{Known, Refused}
 use Rattle.images.specs.Contracts.{sizeChecks, imageChecks, tellsAdmitted, Admits}

@@ -12,15 +12,15 @@ use lib.Bits.{bitAnd, and-step, and-zero-r}
 use lib.Dec.{eqb, ltb}
 use lib.ListN.{length, getD, set}
 use lib.Seq.{getD-set-same, set-out}
-use Rattle.cards.specs.declared.types.Chip.{Chip}
-use Rattle.cards.specs.declared.types.Chip.the-variants.{Nct7802y, F75373s}
-use Rattle.cards.specs.declared.types.Required.{Required}
-use Rattle.cards.specs.Rows.{every, Row, masksIn, rowIn}
-use Rattle.cards.specs.Sheets.{Sheet}
-use Rattle.cards.specs.Cards.{sheetOf, rowOf, powerOn}
-use Rattle.cards.specs.Identity.{allHold, agrees, confirmed}
-use Rattle.cards.proofs.Every.{both}
-use Rattle.cards.proofs.Sound.{fixed, lasting, sound-sheet}
+use Rattle.pages.specs.declared.Chip.{Chip}
+use Rattle.pages.specs.declared.Chip.the-variants.{Nct7802y, F75373s}
+use Rattle.pages.specs.declared.Required.{Required}
+use Rattle.pages.specs.Rows.{every, Row, masksIn, rowIn}
+use Rattle.pages.specs.Sheets.{Sheet}
+use Rattle.pages.specs.Cards.{sheetOf, rowOf, powerOn}
+use Rattle.pages.specs.Identity.{allHold, agrees, confirmed}
+use Rattle.pages.proofs.Every.{both}
+use Rattle.pages.proofs.Sound.{fixed, lasting, sound-sheet}
 use Rattle.images.specs.Bytes.{storedBit, storedBits, stored, storedAt, placed, position, written}
 use Rattle.images.proofs.Digits.{bit, digit}
 use Rattle.images.proofs.Laws.{storedAt-other, stored-half, stored-last}

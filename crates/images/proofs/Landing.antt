@@ -10,13 +10,13 @@ use lib.Bits.{bitAnd, and-zero-r}
 use lib.Dec.{eqb}
 use lib.ListN.{length, getD, List·getD-eq-default}
 use lib.Seq.{set-out}
-use Rattle.cards.specs.declared.types.Chip.{Chip}
-use Rattle.cards.specs.declared.types.Register.{Register}
-use Rattle.cards.specs.declared.types.Selector.{Selector}
-use Rattle.cards.specs.Banks.{Banks, among, sharedIn, standsIn}
-use Rattle.cards.specs.Sheets.{selectorIn}
-use Rattle.cards.specs.Cards.{sheetOf, banksOf}
-use Rattle.cards.proofs.Selectors.{selector-bits, selector-register}
+use Rattle.pages.specs.declared.Chip.{Chip}
+use Rattle.pages.specs.declared.Register.{Register}
+use Rattle.pages.specs.declared.Selector.{Selector}
+use Rattle.pages.specs.Banks.{Banks, among, sharedIn, standsIn}
+use Rattle.pages.specs.Sheets.{selectorIn}
+use Rattle.pages.specs.Cards.{sheetOf, banksOf}
+use Rattle.pages.proofs.Selectors.{selector-bits, selector-register}
 use Rattle.images.specs.Bytes.{storedAt, selected, position, written, seen}
 
 -- an access lands where its address stands in the bank that is selected

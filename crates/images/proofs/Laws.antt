@@ -15,11 +15,11 @@ use lib.ListN.{length, getD, set, length-set}
 use lib.Seq.{getD-set-same, getD-set-other, set-getD, set-out}
 use Rattle.refusal.specs.declared.Outcome.{Outcome}
 use Rattle.refusal.specs.Answers.{tells}
-use Rattle.cards.specs.declared.types.Chip.{Chip}
-use Rattle.cards.specs.declared.types.Named.the-variants.{Known}
-use Rattle.cards.specs.declared.types.Masks.{Masks}
-use Rattle.cards.specs.Rows.{masksIn}
-use Rattle.cards.specs.Cards.{chipOf, rowOf, sizeOf}
+use Rattle.pages.specs.declared.Chip.{Chip}
+use Rattle.pages.specs.declared.Named.the-variants.{Known}
+use Rattle.pages.specs.declared.Masks.{Masks}
+use Rattle.pages.specs.Rows.{masksIn}
+use Rattle.pages.specs.Cards.{chipOf, rowOf, sizeOf}
 use Rattle.images.specs.Bytes.{storedBit, storedBits, stored, storedAt, position, seen}
 use Rattle.images.specs.Contracts.{WritesByte}
 use Rattle.images.proofs.Digits.{bit, digit}

@@ -6,7 +6,7 @@ use mathlib.Core.List.{List}
 use Rattle.refusal.proofs.Numbers.{numberOf-injective, not-accepted}
 use Rattle.refusal.proofs.Answers.{tells-injective}
 use Rattle.refusal.specs.declared.Outcome.{Outcome}
-use Rattle.cards.specs.declared.types.Register.{Register}
+use Rattle.pages.specs.declared.Register.{Register}
 use Rattle.images.specs.declared.Admitted.{Admitted}
 use Rattle.images.specs.declared.ByteRead.{ByteRead}
 use Rattle.images.specs.declared.ByteRead.the-variants as byteRead

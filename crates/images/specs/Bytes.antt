@@ -6,11 +6,11 @@ use mathlib.Core.List.{List}
 use lib.Bits.{bitAnd}
 use lib.Dec.{eqb}
 use lib.ListN.{getD, set}
-use Rattle.cards.specs.declared.types.Chip.{Chip}
-use Rattle.cards.specs.declared.types.Masks.{Masks}
-use Rattle.cards.specs.Banks.{standsIn}
-use Rattle.cards.specs.Rows.{masksIn}
-use Rattle.cards.specs.Cards.{rowOf, banksOf}
+use Rattle.pages.specs.declared.Chip.{Chip}
+use Rattle.pages.specs.declared.Masks.{Masks}
+use Rattle.pages.specs.Banks.{standsIn}
+use Rattle.pages.specs.Rows.{masksIn}
+use Rattle.pages.specs.Cards.{rowOf, banksOf}
 
 -- "A byte write to an address replaces the writable bits, clears those clear bits where a 1 is written, and keeps the others."
 abbrev pub storedBit : ℕ → ℕ → ℕ → ℕ → ℕ

@@ -8,8 +8,8 @@ use Rattle.refusal.specs.declared.Outcome.{Outcome}
 use Rattle.refusal.specs.Refusals.{numberOf}
 use Rattle.refusal.specs.Answers.{tells}
 use Rattle.refusal.specs.Checks.{Check, first, told, left}
-use Rattle.cards.specs.declared.types.Register.{Register}
-use Rattle.cards.specs.Cards.{chipOf, chipNumber, whenKnown, unknown, notOfSize, powerOn}
+use Rattle.pages.specs.declared.Register.{Register}
+use Rattle.pages.specs.Cards.{chipOf, chipNumber, whenKnown, unknown, notOfSize, powerOn}
 use Rattle.images.specs.declared.Admitted.{Admitted}
 use Rattle.images.specs.declared.Admitted.the-variants.{Known, Refused}
 use Rattle.images.specs.declared.ByteRead.{ByteRead}

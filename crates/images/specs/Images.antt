@@ -4,7 +4,7 @@ use Prim.Native.Nat.{ℕ}
 use mathlib.Core.Bool.{cond}
 use lib.Dec.{eqb}
 use Rattle.refusal.specs.declared.Refusal.the-variants.{NoSuchChip, NotAnImage}
-use Rattle.cards.specs.Cards.{chipOf, whenKnown, sizeOf}
+use Rattle.pages.specs.Cards.{chipOf, whenKnown, sizeOf}
 use Rattle.images.specs.declared.Admitted.{Admitted}
 use Rattle.images.specs.declared.Admitted.the-variants.{Known, Refused}
 

@@ -1,7 +1,7 @@
 // A byte access on the bus: where it lands, and what it does there. Behind the image's end is no register.
 use crate::place;
-use cards::Chip;
-use cards::Register;
+use pages::Chip;
+use pages::Register;
 ghost use mathlib.Core.Path.{_≡_};
 ghost use lib.ListN.{getD};
 ghost use Rattle.images.specs.Bytes.{selected, position, written, seen};

@@ -2,18 +2,18 @@
 mod bus;
 mod bytes;
 
-use cards::Chip;
 use cards::GREATEST;
-use cards::Named;
-use cards::Register;
+use pages::Chip;
+use pages::Named;
+use pages::Register;
 use refusal::Outcome;
 use refusal::Refusal;
 ghost use Prim.Native.Nat.{_≤_};
 ghost use mathlib.Core.Path.{_≡_};
 ghost use lib.ListN.{length, take};
-ghost use Rattle.cards.specs.Rows.{column};
-ghost use Rattle.cards.specs.Sheets.{greatest};
-ghost use Rattle.cards.specs.Cards.{rowOf};
+ghost use Rattle.pages.specs.Rows.{column};
+ghost use Rattle.pages.specs.Sheets.{greatest};
+ghost use Rattle.pages.specs.Cards.{rowOf};
 ghost use Rattle.images.specs.Contracts.{Admits, Places, WritesByte, ReadsByte, Resets};
 
 // The chip that an image is asked of.

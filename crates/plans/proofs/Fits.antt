@@ -11,14 +11,14 @@ use lib.Bits.{bitAnd}
 use lib.Dec.{eqb}
 use lib.ListN.{length, getD, length-append, List·getD-append}
 use lib.Seq.{getD-append-add}
-use Rattle.cards.specs.declared.types.Chip.{Chip}
-use Rattle.cards.specs.declared.types.Layout.{Layout}
-use Rattle.cards.specs.declared.types.Register.{Register}
-use Rattle.cards.specs.Rows.{positions, column}
-use Rattle.cards.specs.Sheets.{registerIn}
-use Rattle.cards.specs.Cards.{sheetOf, rowOf, hasTable, tableOf, layoutOf, shapeOf, fitsAt}
-use Rattle.cards.proofs.Columns.{column-at}
-use Rattle.cards.proofs.Tables.{table-sized, register-at, whole-mask, byte-fits}
+use Rattle.pages.specs.declared.Chip.{Chip}
+use Rattle.pages.specs.declared.Layout.{Layout}
+use Rattle.pages.specs.declared.Register.{Register}
+use Rattle.pages.specs.Rows.{positions, column}
+use Rattle.pages.specs.Sheets.{registerIn}
+use Rattle.pages.specs.Cards.{sheetOf, rowOf, hasTable, tableOf, layoutOf, shapeOf, fitsAt}
+use Rattle.pages.proofs.Columns.{column-at}
+use Rattle.pages.proofs.Tables.{table-sized, register-at, whole-mask, byte-fits}
 use Rattle.curves.specs.declared.Plan.{Plan}
 use Rattle.curves.specs.Planned.{temperaturesInOrder, speedsInOrder}
 use Rattle.curves.specs.Values.{Within, Sized, Typed}

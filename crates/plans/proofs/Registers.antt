@@ -7,15 +7,15 @@ use mathlib.Core.Bool.{So, false}
 use mathlib.Core.List.{List, _∷_, map}
 use lib.ListN.{length, getD, take, drop, length-append, length-drop}
 use lib.Seq.{take-at, drop-at, take-all}
-use Rattle.cards.specs.declared.types.Chip.{Chip}
-use Rattle.cards.specs.declared.types.Register.{Register}
-use Rattle.cards.specs.declared.types.Shape.{Shape}
-use Rattle.cards.specs.declared.types.Shape.the-variants.{Slope, Steps}
-use Rattle.cards.specs.Rows.{Table, positions, from, column}
-use Rattle.cards.specs.Sheets.{room, registerIn}
-use Rattle.cards.specs.Cards.{sheetOf, rowOf, hasTable, tableOf, shapeOf, worth}
-use Rattle.cards.proofs.Columns.{column-at}
-use Rattle.cards.proofs.Tables.{table-sized, register-at}
+use Rattle.pages.specs.declared.Chip.{Chip}
+use Rattle.pages.specs.declared.Register.{Register}
+use Rattle.pages.specs.declared.Shape.{Shape}
+use Rattle.pages.specs.declared.Shape.the-variants.{Slope, Steps}
+use Rattle.pages.specs.Rows.{Table, positions, from, column}
+use Rattle.pages.specs.Sheets.{room, registerIn}
+use Rattle.pages.specs.Cards.{sheetOf, rowOf, hasTable, tableOf, shapeOf, worth}
+use Rattle.pages.proofs.Columns.{column-at}
+use Rattle.pages.proofs.Tables.{table-sized, register-at}
 use Rattle.curves.specs.Curves.{stepRule, words}
 use Rattle.curves.specs.Planned.{Curve, planned, valuesAt, asks}
 use Rattle.curves.proofs.Registers.{in-a-row, planned-count}

@@ -8,9 +8,9 @@ use mathlib.Core.List.{List, [], _∷_, map}
 use lib.Bits.{bitAnd}
 use lib.ListN.{length, getD, length-append, List·getD-append}
 use lib.Seq.{getD-append-add}
-use Rattle.cards.specs.declared.types.Chip.{Chip}
-use Rattle.cards.specs.Cards.{rowOf, hasTable, tableOf, shapeOf, layoutOf, worth}
-use Rattle.cards.proofs.Tables.{whole-mask, byte-fits}
+use Rattle.pages.specs.declared.Chip.{Chip}
+use Rattle.pages.specs.Cards.{rowOf, hasTable, tableOf, shapeOf, layoutOf, worth}
+use Rattle.pages.proofs.Tables.{whole-mask, byte-fits}
 use Rattle.curves.specs.declared.Plan.{Plan}
 use Rattle.curves.specs.Planned.{valuesAt, temperaturesInOrder, speedsInOrder}
 use Rattle.curves.specs.Values.{Within, Typed}

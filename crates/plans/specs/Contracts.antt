@@ -8,7 +8,7 @@ use Rattle.refusal.specs.declared.Outcome.{Outcome}
 use Rattle.refusal.specs.Refusals.{numberOf}
 use Rattle.refusal.specs.Answers.{tells}
 use Rattle.refusal.specs.Checks.{Check, first, told}
-use Rattle.cards.specs.Cards.{chipOf, whenKnown, unknown, noTable, notAnImage, shapeOf}
+use Rattle.pages.specs.Cards.{chipOf, whenKnown, unknown, noTable, notAnImage, shapeOf}
 use Rattle.images.specs.declared.Admitted.{Admitted}
 use Rattle.curves.specs.declared.Plan.{Plan}
 use Rattle.curves.specs.Planned.{asks}

@@ -4,8 +4,8 @@ use Prim.Native.Nat.{ℕ}
 use mathlib.Core.Bool.{Bool, true, false, cond, _&&_}
 use mathlib.Core.List.{List, [], _∷_, map}
 use Rattle.refusal.specs.declared.Refusal.the-variants.{NoSuchChip, NoSuchTable, TemperaturesOutOfOrder, SpeedsOutOfOrder}
-use Rattle.cards.specs.declared.types.Chip.{Chip}
-use Rattle.cards.specs.Cards.{chipOf, whenKnown, hasTable, tableOf, shapeOf, worth, fitsAt}
+use Rattle.pages.specs.declared.Chip.{Chip}
+use Rattle.pages.specs.Cards.{chipOf, whenKnown, hasTable, tableOf, shapeOf, worth, fitsAt}
 use Rattle.images.specs.declared.Admitted.{Admitted}
 use Rattle.images.specs.declared.Admitted.the-variants.{Known, Refused}
 use Rattle.curves.specs.declared.Plan.{Plan}

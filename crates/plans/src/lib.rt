@@ -1,11 +1,11 @@
 // Cooling plans: which are accepted, and what speed a plan, or the curve in an image, asks at a temperature.
 mod tables;
 
-use cards::Chip;
-use cards::Fan;
-use cards::Named;
 use curves::Plan;
 use images::Admitted;
+use pages::Chip;
+use pages::Fan;
+use pages::Named;
 use refusal::Outcome;
 use refusal::Refusal;
 ghost use mathlib.Core.Path.{_≡_};

@@ -1,14 +1,14 @@
 // What a fan table's registers hold in an image, and whether they can hold a plan's values.
 use bodies::LONGEST;
-use cards::Chip;
-use cards::Layout;
-use cards::Register;
 use curves::Plan;
+use pages::Chip;
+use pages::Layout;
+use pages::Register;
 ghost use Prim.Native.Nat.{_+_, _-_, _≤_};
 ghost use mathlib.Core.Path.{_≡_};
-ghost use Rattle.cards.specs.Rows.{column};
-ghost use Rattle.cards.specs.Sheets.{registerIn};
-ghost use Rattle.cards.specs.Cards.{sheetOf};
+ghost use Rattle.pages.specs.Rows.{column};
+ghost use Rattle.pages.specs.Sheets.{registerIn};
+ghost use Rattle.pages.specs.Cards.{sheetOf};
 ghost use Rattle.plans.specs.Parts.{worthAt, fitFrom, fittingOf};
 
 // A register's writable bits in the image, and 0 behind the image's end.

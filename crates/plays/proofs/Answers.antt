@@ -12,9 +12,9 @@ use Rattle.refusal.specs.Checks.{first}
 use Rattle.refusal.specs.declared.Amount.the-variants as amount
 use Rattle.refusal.specs.declared.Outcome.the-variants as outcome
 use Rattle.refusal.proofs.Passed.{all-passed, first-passed, when-passed, when-refused, told-passed, told-refused}
-use Rattle.cards.specs.declared.types.Chip.{Chip}
-use Rattle.cards.specs.declared.types.Named.the-variants.{Known}
-use Rattle.cards.specs.Cards.{chipOf, whenKnown, sizeOf}
+use Rattle.pages.specs.declared.Chip.{Chip}
+use Rattle.pages.specs.declared.Named.the-variants.{Known}
+use Rattle.pages.specs.Cards.{chipOf, whenKnown, sizeOf}
 use Rattle.identities.specs.Contracts.{identityChecks, Confirms}
 use Rattle.curves.specs.declared.Plan.{Plan}
 use Rattle.plans.specs.Contracts.{planChecks}

@@ -8,13 +8,13 @@ use mathlib.Core.List.{List, [], _∷_, _++_, map}
 use borrow.Author.Tests.{eqb-true}
 use lib.Bits.{bitAnd, and-le-r, and-self}
 use lib.ListN.{getD}
-use Rattle.cards.specs.declared.types.Chip.{Chip}
-use Rattle.cards.specs.declared.types.Shape.{Shape}
-use Rattle.cards.specs.declared.types.Shape.the-variants.{Slope, Steps}
-use Rattle.cards.specs.Cards.{rowOf, tableOf, shapeOf, worth, fitsAt}
-use Rattle.cards.proofs.Every.{both}
-use Rattle.cards.proofs.Sound.{reaches}
-use Rattle.cards.proofs.Tables.{table-reaches}
+use Rattle.pages.specs.declared.Chip.{Chip}
+use Rattle.pages.specs.declared.Shape.{Shape}
+use Rattle.pages.specs.declared.Shape.the-variants.{Slope, Steps}
+use Rattle.pages.specs.Cards.{rowOf, tableOf, shapeOf, worth, fitsAt}
+use Rattle.pages.proofs.Every.{both}
+use Rattle.pages.proofs.Sound.{reaches}
+use Rattle.pages.proofs.Tables.{table-reaches}
 use Rattle.curves.specs.declared.Plan.{Plan}
 use Rattle.curves.specs.Orders.{All, Each, fulls}
 use Rattle.curves.specs.Planned.{fullOf, temperaturesInOrder, speedsInOrder}

@@ -11,11 +11,11 @@ use borrow.Author.Tests.{eqb-true, eqb-false}
 use lib.Bits.{bitAnd}
 use lib.Dec.{eqb}
 use lib.ListN.{length, getD, take}
-use Rattle.cards.specs.declared.types.Chip.{Chip}
-use Rattle.cards.specs.Rows.{masksIn, positions}
-use Rattle.cards.specs.Cards.{rowOf, sizeOf, tableOf, worth}
-use Rattle.cards.proofs.Apart.{fitting-byte}
-use Rattle.cards.proofs.Tables.{table-within, table-distinct}
+use Rattle.pages.specs.declared.Chip.{Chip}
+use Rattle.pages.specs.Rows.{masksIn, positions}
+use Rattle.pages.specs.Cards.{rowOf, sizeOf, tableOf, worth}
+use Rattle.pages.proofs.Apart.{fitting-byte}
+use Rattle.pages.proofs.Tables.{table-within, table-distinct}
 use Rattle.images.specs.Bytes.{placed}
 use Rattle.images.proofs.Laws.{storedAt-length, storedAt-other, storedAt-takes}
 use Rattle.curves.specs.Orders.{All, Each}

@@ -5,8 +5,8 @@ use native.Mathlib.Nat.{le-refl, le-trans, min-le-left, min-le-right, le-max-lef
 use mathlib.Core.Path.{_≡_, refl, sym, ap, subst}
 use mathlib.Core.List.{List, [], _∷_, map}
 use lib.ListN.{length, getD, take, replicate}
-use Rattle.cards.specs.declared.types.Shape.{Shape}
-use Rattle.cards.specs.declared.types.Shape.the-variants.{Slope, Steps}
+use Rattle.pages.specs.declared.Shape.{Shape}
+use Rattle.pages.specs.declared.Shape.the-variants.{Slope, Steps}
 use Rattle.curves.specs.Curves.{degree}
 use Rattle.curves.specs.Orders.{Each, fulls, MoreDuty, LessCount}
 use Rattle.curves.specs.Planned.{Curve, asks, askedDuty}

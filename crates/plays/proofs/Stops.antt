@@ -7,15 +7,15 @@ use mathlib.Core.Bool.{So}
 use mathlib.Core.List.{List, [], _∷_, _++_, map}
 use lib.Bits.{bitAnd}
 use lib.ListN.{length, getD, take}
-use Rattle.cards.specs.declared.types.Chip.{Chip}
-use Rattle.cards.specs.declared.types.Shape.{Shape}
-use Rattle.cards.specs.declared.types.Shape.the-variants.{Slope, Steps}
-use Rattle.cards.specs.Banks.{asideIn}
-use Rattle.cards.specs.Rows.{every, Table, masksIn, positions}
-use Rattle.cards.specs.Cards.{sheetOf, banksOf, rowOf, sizeOf, tableOf, shapeOf, worth}
-use Rattle.cards.proofs.Every.{both, every-append}
-use Rattle.cards.proofs.Sound.{stands}
-use Rattle.cards.proofs.Tables.{table-stands}
+use Rattle.pages.specs.declared.Chip.{Chip}
+use Rattle.pages.specs.declared.Shape.{Shape}
+use Rattle.pages.specs.declared.Shape.the-variants.{Slope, Steps}
+use Rattle.pages.specs.Banks.{asideIn}
+use Rattle.pages.specs.Rows.{every, Table, masksIn, positions}
+use Rattle.pages.specs.Cards.{sheetOf, banksOf, rowOf, sizeOf, tableOf, shapeOf, worth}
+use Rattle.pages.proofs.Every.{both, every-append}
+use Rattle.pages.proofs.Sound.{stands}
+use Rattle.pages.proofs.Tables.{table-stands}
 use Rattle.images.specs.Bytes.{placed}
 use Rattle.images.proofs.Laws.{storedAt-other}
 use Rattle.curves.specs.declared.Plan.{Plan}

@@ -7,7 +7,7 @@ use lib.ListN.{length, take}
 use Rattle.refusal.specs.declared.Amount.{Amount}
 use Rattle.refusal.specs.Answers.{tellsAmount}
 use Rattle.refusal.specs.Checks.{Check, told, left}
-use Rattle.cards.specs.Cards.{chipOf, whenKnown, notAnImage}
+use Rattle.pages.specs.Cards.{chipOf, whenKnown, notAnImage}
 use Rattle.identities.specs.Identities.{unconfirmed}
 use Rattle.curves.specs.declared.Plan.{Plan}
 use Rattle.plans.specs.Contracts.{planChecks}

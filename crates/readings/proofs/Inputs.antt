@@ -9,8 +9,8 @@ use borrow.Author.Tests.{eqb-true}
 use lib.Dec.{T, eqb}
 use mir.Val.{hasKey}
 use types.Run.{OneOf, hit}
-use Rattle.cards.specs.Rows.{every}
-use Rattle.cards.proofs.Every.{both}
+use Rattle.pages.specs.Rows.{every}
+use Rattle.pages.proofs.Every.{both}
 use Rattle.readings.specs.Inputs.{Input, worthIn}
 
 -- of each of some addresses the list says one worth, so it does of one that is among them

@@ -13,10 +13,10 @@ use lib.IntN.{ℤ, pos, _+ℤ_, _*ℤ_}
 use lib.ListN.{length, getD, set, length-set}
 use lib.Pow.{pow-pos, pow-add, shl-shr}
 use lib.Seq.{getD-set-same, getD-set-other}
-use Rattle.cards.specs.Rows.{every, Reading}
-use Rattle.cards.specs.Nct7802y as nct7802y
-use Rattle.cards.specs.Nct80 as nct80
-use Rattle.cards.proofs.Every.{both, of-every, distinct, apart}
+use Rattle.pages.specs.Rows.{every, Reading}
+use Rattle.pages.specs.Nct7802y as nct7802y
+use Rattle.pages.specs.Nct80 as nct80
+use Rattle.pages.proofs.Every.{both, of-every, distinct, apart}
 use Rattle.readings.specs.Readings.{isWidth, fits, stepsPerDegree, degreesOf, lowCount, stepsFrom, bytesFrom, bitsFrom}
 use Rattle.readings.specs.Sensors.{highAt, temperatureIn}
 use Rattle.readings.proofs.Widths.{bounds}

@@ -4,7 +4,7 @@ use Prim.Native.Nat.{ℕ}
 use mathlib.Core.List.{List}
 use lib.IntN.{ℤ}
 use lib.ListN.{getD}
-use Rattle.cards.specs.Rows.{Reading}
+use Rattle.pages.specs.Rows.{Reading}
 use Rattle.readings.specs.Readings.{stepsFrom}
 
 -- where the high byte of a sensor stands; the sensors are counted from 0

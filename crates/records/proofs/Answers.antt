@@ -27,10 +27,10 @@ use Rattle.refusal.proofs.Passed.{
 use Rattle.refusal.specs.declared.Amount.{Amount}
 use Rattle.refusal.specs.declared.Amount.the-variants as amount
 use Rattle.refusal.specs.Answers.{tellsAmount}
-use Rattle.cards.specs.declared.types.Chip.{Chip}
-use Rattle.cards.specs.declared.types.Named.the-variants.{Known}
-use Rattle.cards.specs.Cards.{chipOf, whenKnown, hasTable, shapeOf, layoutOf}
-use Rattle.cards.proofs.Numbers.{chip-known}
+use Rattle.pages.specs.declared.Chip.{Chip}
+use Rattle.pages.specs.declared.Named.the-variants.{Known}
+use Rattle.pages.specs.Cards.{chipOf, whenKnown, hasTable, shapeOf, layoutOf}
+use Rattle.pages.proofs.Numbers.{chip-known}
 use Rattle.curves.specs.declared.Plan.{Plan}
 use Rattle.bodies.specs.Bodies.{decoded}
 use Rattle.plans.specs.Contracts.{askPlanChecks, orderChecks, planChecks}

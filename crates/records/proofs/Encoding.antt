@@ -8,17 +8,17 @@ use mathlib.Core.List.{List, [], _++_}
 use lib.ListN.{length, getD, take, length-append}
 use lib.Seq.{take-append-add}
 use Rattle.refusal.specs.Checks.{first}
-use Rattle.cards.specs.declared.types.Chip.{Chip}
-use Rattle.cards.specs.declared.types.Chip.the-variants.{Nct7802y, F75373s}
-use Rattle.cards.specs.declared.types.Named.{Named}
-use Rattle.cards.specs.declared.types.Named.the-variants.{Known, Unknown}
-use Rattle.cards.specs.declared.types.Shape.{Shape}
-use Rattle.cards.specs.declared.types.Shape.the-variants.{Slope, Steps}
-use Rattle.cards.specs.declared.types.Layout.{Layout}
-use Rattle.cards.specs.Rows.{column}
-use Rattle.cards.specs.Sheets.{room}
-use Rattle.cards.specs.Cards.{sheetOf, chipOf, whenKnown, hasTable, tableOf, shapeOf, layoutOf}
-use Rattle.cards.proofs.Tables.{table-laid, table-sized, table-short}
+use Rattle.pages.specs.declared.Chip.{Chip}
+use Rattle.pages.specs.declared.Chip.the-variants.{Nct7802y, F75373s}
+use Rattle.pages.specs.declared.Named.{Named}
+use Rattle.pages.specs.declared.Named.the-variants.{Known, Unknown}
+use Rattle.pages.specs.declared.Shape.{Shape}
+use Rattle.pages.specs.declared.Shape.the-variants.{Slope, Steps}
+use Rattle.pages.specs.declared.Layout.{Layout}
+use Rattle.pages.specs.Rows.{column}
+use Rattle.pages.specs.Sheets.{room}
+use Rattle.pages.specs.Cards.{sheetOf, chipOf, whenKnown, hasTable, tableOf, shapeOf, layoutOf}
+use Rattle.pages.proofs.Tables.{table-laid, table-sized, table-short}
 use Rattle.curves.specs.declared.Plan.{Plan}
 use Rattle.curves.specs.Planned.{planned, temperaturesInOrder, speedsInOrder}
 use Rattle.curves.specs.Values.{Sized}

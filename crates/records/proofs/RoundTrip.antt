@@ -14,10 +14,10 @@ use Rattle.refusal.proofs.Passed.{all-passed, first-passed, first-front, when-p
 use Rattle.refusal.specs.declared.Amount.{Amount}
 use Rattle.refusal.specs.declared.Amount.the-variants as amount
 use Rattle.refusal.proofs.Answers.{tellsAmount-injective}
-use Rattle.cards.specs.declared.types.Chip.{Chip}
-use Rattle.cards.specs.declared.types.Named.the-variants.{Known}
-use Rattle.cards.specs.Cards.{chipOf, whenKnown, shapeOf, layoutOf}
-use Rattle.cards.proofs.Numbers.{chip-known}
+use Rattle.pages.specs.declared.Chip.{Chip}
+use Rattle.pages.specs.declared.Named.the-variants.{Known}
+use Rattle.pages.specs.Cards.{chipOf, whenKnown, shapeOf, layoutOf}
+use Rattle.pages.proofs.Numbers.{chip-known}
 use Rattle.curves.specs.declared.Plan.{Plan}
 use Rattle.bodies.specs.Bodies.{bodyOf, ownOf}
 use Rattle.plans.specs.Contracts.{orderChecks, planChecks}

@@ -9,7 +9,7 @@ use lib.ListN.{length, getD, drop}
 use Rattle.refusal.specs.declared.Amount.{Amount}
 use Rattle.refusal.specs.Answers.{tellsAmount}
 use Rattle.refusal.specs.Checks.{Check, first, told, left, roomChecks}
-use Rattle.cards.specs.Cards.{chipOf, whenKnown, unknown, noTable}
+use Rattle.pages.specs.Cards.{chipOf, whenKnown, unknown, noTable}
 use Rattle.curves.specs.declared.Plan.{Plan}
 use Rattle.plans.specs.Contracts.{orderChecks, planChecks}
 use Rattle.records.specs.declared.Found.{Found}

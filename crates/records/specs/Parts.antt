@@ -11,7 +11,7 @@ use Rattle.refusal.specs.declared.Amount.{Amount}
 use Rattle.refusal.specs.declared.Amount.the-variants as amount
 use Rattle.refusal.specs.Answers.{tellsAmount}
 use Rattle.refusal.specs.Checks.{told, left, roomChecks}
-use Rattle.cards.specs.declared.types.Chip.{Chip}
+use Rattle.pages.specs.declared.Chip.{Chip}
 use Rattle.curves.specs.declared.Plan.{Plan}
 use Rattle.records.specs.declared.Found.{Found}
 use Rattle.records.specs.Records.{recordOf, noPlan}

@@ -3,9 +3,9 @@
 use Prim.Native.Nat.{ℕ, _+_}
 use mathlib.Core.List.{List, [], _∷_, _++_}
 use lib.ListN.{length, getD, drop}
-use Rattle.cards.specs.declared.types.Chip.{Chip}
-use Rattle.cards.specs.Rows.{positions}
-use Rattle.cards.specs.Cards.{chipOf, whenKnown, tableOf, shapeOf, layoutOf}
+use Rattle.pages.specs.declared.Chip.{Chip}
+use Rattle.pages.specs.Rows.{positions}
+use Rattle.pages.specs.Cards.{chipOf, whenKnown, tableOf, shapeOf, layoutOf}
 use Rattle.curves.specs.declared.Plan.{Plan}
 use Rattle.curves.specs.Values.{noSlope, noSteps}
 use Rattle.bodies.specs.Bodies.{bodyOf, decoded, ownOf}

@@ -17,7 +17,7 @@ use Rattle.refusal.proofs.Numbers.{numberOf-positive}
 use Rattle.refusal.proofs.Passed.{numbered, first-passed, first-refused, when-refused, told-refused}
 use Rattle.refusal.specs.declared.Amount.{Amount}
 use Rattle.refusal.specs.declared.Amount.the-variants as amount
-use Rattle.cards.specs.declared.types.Chip.{Chip}
+use Rattle.pages.specs.declared.Chip.{Chip}
 use Rattle.curves.specs.declared.Plan.{Plan}
 use Rattle.curves.specs.Values.{Sized}
 use Rattle.plans.specs.Contracts.{planChecks}

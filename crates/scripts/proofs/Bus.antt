@@ -13,12 +13,12 @@ use lib.Bits.{bitAnd, and-le-r, and-zero-r}
 use lib.Dec.{eqb, ltb}
 use lib.ListN.{length, getD, take, length-map}
 use lib.Seq.{take-all}
-use Rattle.cards.specs.declared.types.Chip.{Chip}
-use Rattle.cards.specs.Banks.{Banks, sharedIn, standsIn, asideIn, noBank, ready, selectsFrom}
-use Rattle.cards.specs.Rows.{every, masksIn, positions}
-use Rattle.cards.specs.Cards.{sheetOf, banksOf, rowOf, sizeOf, tableOf}
-use Rattle.cards.proofs.Every.{both}
-use Rattle.cards.proofs.Sound.{seenAt, reached, noneOf, stands, selecting, sound-sheet}
+use Rattle.pages.specs.declared.Chip.{Chip}
+use Rattle.pages.specs.Banks.{Banks, sharedIn, standsIn, asideIn, noBank, ready, selectsFrom}
+use Rattle.pages.specs.Rows.{every, masksIn, positions}
+use Rattle.pages.specs.Cards.{sheetOf, banksOf, rowOf, sizeOf, tableOf}
+use Rattle.pages.proofs.Every.{both}
+use Rattle.pages.proofs.Sound.{seenAt, reached, noneOf, stands, selecting, sound-sheet}
 use Rattle.images.specs.Bytes.{selected, position, placed, written}
 use Rattle.images.proofs.Laws.{storedAt-length, storedAt-other, storedAt-under, storedAt-there}
 use Rattle.images.proofs.Landing.{lands, selects, stands-shared, shared-plain}

@@ -10,13 +10,13 @@ use lib.ListN.{length, length-append, length-map}
 use Rattle.refusal.specs.Checks.{first}
 use Rattle.refusal.specs.declared.Amount.the-variants as amount
 use Rattle.refusal.proofs.Passed.{all-passed, when-passed}
-use Rattle.cards.specs.declared.types.Chip.{Chip}
-use Rattle.cards.specs.declared.types.Chip.the-variants.{Nct7802y, F75373s}
-use Rattle.cards.specs.declared.types.Named.the-variants.{Known}
-use Rattle.cards.specs.Banks.{noBank}
-use Rattle.cards.specs.Cards.{sheetOf, chipOf, banksOf, hasTable, tableOf, shapeOf, layoutOf}
-use Rattle.cards.proofs.Selectors.{selects-most}
-use Rattle.cards.proofs.Tables.{table-laid, table-short}
+use Rattle.pages.specs.declared.Chip.{Chip}
+use Rattle.pages.specs.declared.Chip.the-variants.{Nct7802y, F75373s}
+use Rattle.pages.specs.declared.Named.the-variants.{Known}
+use Rattle.pages.specs.Banks.{noBank}
+use Rattle.pages.specs.Cards.{sheetOf, chipOf, banksOf, hasTable, tableOf, shapeOf, layoutOf}
+use Rattle.pages.proofs.Selectors.{selects-most}
+use Rattle.pages.proofs.Tables.{table-laid, table-short}
 use Rattle.curves.specs.declared.Plan.{Plan}
 use Rattle.curves.specs.Orders.{fulls}
 use Rattle.curves.specs.Planned.{fullOf}

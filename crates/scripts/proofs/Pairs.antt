@@ -8,8 +8,8 @@ use mathlib.Core.Path.{_≡_, refl, sym, ap, ap₂, _∙_}
 use mathlib.Core.List.{List, [], _∷_, _++_, map}
 use lib.ListN.{length, getD, length-append, length-replicate, getD-replicate, List·getD-append}
 use lib.Seq.{getD-append-add}
-use Rattle.cards.specs.Rows.{Table, positions}
-use Rattle.cards.specs.Sheets.{loaded}
+use Rattle.pages.specs.Rows.{Table, positions}
+use Rattle.pages.specs.Sheets.{loaded}
 use Rattle.curves.specs.Orders.{fulls}
 use Rattle.curves.specs.Planned.{Curve}
 use Rattle.bodies.specs.Bodies.{body}

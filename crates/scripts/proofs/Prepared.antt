@@ -10,18 +10,18 @@ use borrow.Author.Tests.{ltb-true, ltb-false}
 use lib.Dec.{eqb, ltb}
 use lib.ListN.{length, getD, take, length-append, length-map}
 use lib.Seq.{take-all}
-use Rattle.cards.specs.declared.types.Chip.{Chip}
-use Rattle.cards.specs.declared.types.Masks.{Masks}
-use Rattle.cards.specs.declared.types.Register.{Register}
-use Rattle.cards.specs.Banks.{noBank, ready, selectsFrom}
-use Rattle.cards.specs.Rows.{every, Table, masksIn, positions, rowIn}
-use Rattle.cards.specs.Sheets.{missing, loaded, selectorIn}
-use Rattle.cards.specs.Cards.{sheetOf, cardOf, banksOf, rowOf, hasTable, tableOf, shapeOf}
-use Rattle.cards.proofs.Every.{both, every-append}
-use Rattle.cards.proofs.Columns.{column-length, column-at}
-use Rattle.cards.proofs.Selectors.{selector-bits, selector-register, selects-most}
-use Rattle.cards.proofs.Sound.{stands}
-use Rattle.cards.proofs.Tables.{table-short, table-none, table-stands, register-position, register-at}
+use Rattle.pages.specs.declared.Chip.{Chip}
+use Rattle.pages.specs.declared.Masks.{Masks}
+use Rattle.pages.specs.declared.Register.{Register}
+use Rattle.pages.specs.Banks.{noBank, ready, selectsFrom}
+use Rattle.pages.specs.Rows.{every, Table, masksIn, positions, rowIn}
+use Rattle.pages.specs.Sheets.{missing, loaded, selectorIn}
+use Rattle.pages.specs.Cards.{sheetOf, cardOf, banksOf, rowOf, hasTable, tableOf, shapeOf}
+use Rattle.pages.proofs.Every.{both, every-append}
+use Rattle.pages.proofs.Columns.{column-length, column-at}
+use Rattle.pages.proofs.Selectors.{selector-bits, selector-register, selects-most}
+use Rattle.pages.proofs.Sound.{stands}
+use Rattle.pages.proofs.Tables.{table-short, table-none, table-stands, register-position, register-at}
 use Rattle.images.specs.Bytes.{storedAt, placed}
 use Rattle.curves.specs.declared.Plan.{Plan}
 use Rattle.curves.specs.Orders.{fulls}

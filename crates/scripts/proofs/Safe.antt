@@ -7,7 +7,7 @@ use mathlib.Core.Bool.{Bool, true, false, cond}
 use mathlib.Core.List.{List, [], _∷_, _++_, map}
 use lib.Dec.{eqb}
 use lib.ListN.{length, take, replicate, length-replicate}
-use Rattle.cards.specs.Rows.{Table}
+use Rattle.pages.specs.Rows.{Table}
 use Rattle.curves.specs.Orders.{Each, fulls}
 use Rattle.curves.specs.Planned.{Curve}
 use Rattle.scripts.specs.Scripts.{Pair, writes, script}

@@ -13,8 +13,8 @@ use Rattle.refusal.specs.declared.Refusal.the-variants.{OutputTooShort}
 use Rattle.refusal.specs.Checks.{first, roomChecks}
 use Rattle.refusal.proofs.Passed.{when-passed, when-refused, told-passed, told-refused}
 use Rattle.refusal.specs.declared.Amount.the-variants as amount
-use Rattle.cards.specs.declared.types.Register.{Register}
-use Rattle.cards.specs.Banks.{ready}
+use Rattle.pages.specs.declared.Register.{Register}
+use Rattle.pages.specs.Banks.{ready}
 use Rattle.images.specs.Bytes.{storedAt}
 use Rattle.images.proofs.Laws.{storedAt-length}
 use Rattle.scripts.specs.declared.making.Cursor.{Cursor}

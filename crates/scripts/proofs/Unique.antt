@@ -6,7 +6,7 @@ use mathlib.Core.List.{List}
 use Rattle.refusal.proofs.Answers.{tellsAmount-injective}
 use Rattle.refusal.specs.declared.Amount.{Amount}
 use Rattle.refusal.specs.Checks.{Check}
-use Rattle.cards.specs.declared.types.Chip.{Chip}
+use Rattle.pages.specs.declared.Chip.{Chip}
 use Rattle.curves.specs.declared.Plan.{Plan}
 use Rattle.scripts.specs.Contracts.{ScriptsBy, Makes}
 

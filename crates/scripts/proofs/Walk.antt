@@ -11,8 +11,8 @@ use borrow.Author.Tests.{eqb-true, eq-eqb, ltb-true, ltb-false}
 use lib.Dec.{eqb, ltb}
 use lib.ListN.{length, getD, take, drop, length-append}
 use lib.Seq.{drop-cons}
-use Rattle.cards.specs.declared.types.Register.{Register}
-use Rattle.cards.specs.Banks.{Banks, noBank, ready, selectsFrom}
+use Rattle.pages.specs.declared.Register.{Register}
+use Rattle.pages.specs.Banks.{Banks, noBank, ready, selectsFrom}
 use Rattle.scripts.specs.declared.making.Cursor.{Cursor}
 use Rattle.scripts.specs.declared.making.Load.{Load}
 use Rattle.scripts.specs.declared.making.Write.{Write}

@@ -7,7 +7,7 @@ use lib.ListN.{length, take, drop}
 use Rattle.refusal.specs.declared.Amount.{Amount}
 use Rattle.refusal.specs.Answers.{tellsAmount}
 use Rattle.refusal.specs.Checks.{Check, told, left, roomChecks}
-use Rattle.cards.specs.declared.types.Chip.{Chip}
+use Rattle.pages.specs.declared.Chip.{Chip}
 use Rattle.curves.specs.declared.Plan.{Plan}
 use Rattle.plans.specs.Contracts.{planChecks}
 use Rattle.scripts.specs.Scripts.{placements, routed, flat, scriptOf, scriptFor}

@@ -9,12 +9,12 @@ use lib.ListN.{length, getD, drop}
 use Rattle.refusal.specs.declared.Amount.{Amount}
 use Rattle.refusal.specs.Answers.{tellsAmount}
 use Rattle.refusal.specs.Checks.{told, left, roomChecks}
-use Rattle.cards.specs.declared.types.Chip.{Chip}
-use Rattle.cards.specs.declared.types.Register.{Register}
-use Rattle.cards.specs.Banks.{noBank, ready}
-use Rattle.cards.specs.Rows.{column}
-use Rattle.cards.specs.Sheets.{registerIn, selectorIn}
-use Rattle.cards.specs.Cards.{sheetOf, tableOf, shapeOf, layoutOf}
+use Rattle.pages.specs.declared.Chip.{Chip}
+use Rattle.pages.specs.declared.Register.{Register}
+use Rattle.pages.specs.Banks.{noBank, ready}
+use Rattle.pages.specs.Rows.{column}
+use Rattle.pages.specs.Sheets.{registerIn, selectorIn}
+use Rattle.pages.specs.Cards.{sheetOf, tableOf, shapeOf, layoutOf}
 use Rattle.images.specs.Bytes.{storedAt}
 use Rattle.curves.specs.declared.Plan.{Plan}
 use Rattle.curves.specs.Planned.{fullOf}

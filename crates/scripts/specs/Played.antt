@@ -3,10 +3,10 @@
 use Prim.Native.Nat.{ℕ}
 use mathlib.Core.List.{List, [], _∷_, _++_}
 use lib.ListN.{take}
-use Rattle.cards.specs.declared.types.Chip.{Chip}
-use Rattle.cards.specs.Banks.{asideIn}
-use Rattle.cards.specs.Rows.{positions}
-use Rattle.cards.specs.Cards.{banksOf, tableOf}
+use Rattle.pages.specs.declared.Chip.{Chip}
+use Rattle.pages.specs.Banks.{asideIn}
+use Rattle.pages.specs.Rows.{positions}
+use Rattle.pages.specs.Cards.{banksOf, tableOf}
 use Rattle.images.specs.Bytes.{placed, written}
 use Rattle.scripts.specs.Scripts.{Pair}
 

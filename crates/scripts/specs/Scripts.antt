@@ -4,11 +4,11 @@ use Prim.Native.Nat.{ℕ, zero, suc, _+_, _*_, _/_, _%_}
 use mathlib.Core.Bool.{cond}
 use mathlib.Core.List.{List, [], _∷_, _++_, map}
 use lib.ListN.{getD}
-use Rattle.cards.specs.declared.types.Chip.{Chip}
-use Rattle.cards.specs.declared.types.Layout.{Layout}
-use Rattle.cards.specs.Banks.{Banks, noBank, ready}
-use Rattle.cards.specs.Rows.{Table}
-use Rattle.cards.specs.Cards.{chipOf, whenKnown, banksOf, tableOf, shapeOf, layoutOf}
+use Rattle.pages.specs.declared.Chip.{Chip}
+use Rattle.pages.specs.declared.Layout.{Layout}
+use Rattle.pages.specs.Banks.{Banks, noBank, ready}
+use Rattle.pages.specs.Rows.{Table}
+use Rattle.pages.specs.Cards.{chipOf, whenKnown, banksOf, tableOf, shapeOf, layoutOf}
 use Rattle.curves.specs.declared.Plan.{Plan}
 use Rattle.curves.specs.Curves.{paired}
 use Rattle.curves.specs.Orders.{fulls}

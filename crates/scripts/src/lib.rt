@@ -3,9 +3,9 @@ mod making;
 mod output;
 mod playing;
 
-use cards::Chip;
 use curves::Plan;
 use images::Admitted;
+use pages::Chip;
 use refusal::Amount;
 ghost use Rattle.scripts.specs.Contracts.{Scripts, Makes};
 

@@ -1,10 +1,10 @@
 // What a script is made from. One rule serves every chip: raise the speeds, then write the body in register order, and select a bank before the first
 // write and wherever the next register lies in another bank.
 use bodies::LONGEST;
-use cards::Chip;
-use cards::Register;
-use cards::Selector;
 use curves::Plan;
+use pages::Chip;
+use pages::Register;
+use pages::Selector;
 ghost use Prim.Native.Nat.{_<_};
 ghost use mathlib.Core.Path.{_≡_};
 ghost use mathlib.Core.Bool.{true, cond};

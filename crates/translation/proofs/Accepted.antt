@@ -6,14 +6,14 @@ use mathlib.Core.Path.{_≡_, ap, subst, _∙_}
 use mathlib.Core.List.{List, []}
 use lib.ListN.{length, length-drop}
 use Rattle.refusal.specs.Checks.{first}
-use Rattle.cards.specs.declared.types.Chip.{Chip}
-use Rattle.cards.specs.declared.types.Layout.{Layout}
-use Rattle.cards.specs.declared.types.Shape.{Shape}
-use Rattle.cards.specs.declared.types.Shape.the-variants.{Slope, Steps}
-use Rattle.cards.specs.Sheets.{room}
-use Rattle.cards.specs.Cards.{chipOf, whenKnown, shapeOf, layoutOf}
-use Rattle.cards.proofs.Numbers.{chip-number, chip-digit}
-use Rattle.cards.proofs.Tables.{table-digits, table-sized, table-brief}
+use Rattle.pages.specs.declared.Chip.{Chip}
+use Rattle.pages.specs.declared.Layout.{Layout}
+use Rattle.pages.specs.declared.Shape.{Shape}
+use Rattle.pages.specs.declared.Shape.the-variants.{Slope, Steps}
+use Rattle.pages.specs.Sheets.{room}
+use Rattle.pages.specs.Cards.{chipOf, whenKnown, shapeOf, layoutOf}
+use Rattle.pages.proofs.Numbers.{chip-number, chip-digit}
+use Rattle.pages.proofs.Tables.{table-digits, table-sized, table-brief}
 use Rattle.curves.specs.declared.Plan.{Plan}
 use Rattle.bodies.proofs.Laws.{decoded-chip, decoded-table, decoded-sized}
 use Rattle.plans.specs.Contracts.{planChecks}

@@ -7,7 +7,7 @@ use mathlib.Core.List.{List, [], _∷_, _++_}
 use lib.Dec.{eqb, ltb}
 use lib.ListN.{length, drop}
 use Rattle.refusal.specs.Checks.{first}
-use Rattle.cards.specs.Cards.{chipOf, whenKnown}
+use Rattle.pages.specs.Cards.{chipOf, whenKnown}
 use Rattle.curves.specs.declared.Plan.{Plan}
 use Rattle.records.specs.Records.{chipNumberIn, planIn, recordLength}
 use Rattle.records.specs.Contracts.{recordChecks}

@@ -4,7 +4,7 @@ use Prim.Native.Nat.{ℕ}
 use mathlib.Core.Path.{sym, ap, _∙_}
 use mathlib.Core.List.{List}
 use lib.ListN.{getD}
-use Rattle.cards.specs.Rows.{column}
+use Rattle.pages.specs.Rows.{column}
 use Rattle.bodies.proofs.Laws.{steps-body}
 use borrow.Author.Needs.{needs}
 use Rattle.bodies.proofs.body_of.Statement.{statement}

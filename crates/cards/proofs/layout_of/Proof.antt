@@ -1,9 +1,10 @@
 -- `cards::layout_of` meets its contract: the answer of `table_of` tells the layout, and where there is no table none of its registers.
 -- Assumes nothing.
 use mathlib.Core.Path.{sym, ap}
-use Rattle.cards.specs.Sheets.{layout}
-use Rattle.cards.specs.Cards.{banksOf, cardOf}
-use Rattle.cards.proofs.Tables.{table-found, table-missed, table-none}
+use Rattle.pages.specs.Sheets.{layout}
+use Rattle.pages.specs.Cards.{banksOf, cardOf}
+use Rattle.pages.proofs.Tables.{table-none}
+use Rattle.cards.proofs.Told.{table-found, table-missed}
 use borrow.Author.Needs.{needs}
 use Rattle.cards.proofs.layout_of.Statement.{statement}
 use Rattle.cards.proofs.layout_of.Tie as tie

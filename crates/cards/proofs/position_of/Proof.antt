@@ -1,6 +1,6 @@
 -- `cards::position_of` meets its contract: each arm has by the banks of its page.
 -- Assumes nothing.
-use Rattle.cards.specs.Cards.{sheetOf}
+use Rattle.pages.specs.Cards.{sheetOf}
 use borrow.Author.Needs.{needs}
 use Rattle.cards.proofs.position_of.Statement.{statement}
 use Rattle.cards.proofs.position_of.Tie as tie

@@ -3,11 +3,11 @@
 use native.Mathlib.Omega.{arith}
 use Prim.Native.Nat.{ℕ}
 use mathlib.Core.Path.{_≡_, sym}
-use Rattle.cards.specs.declared.types.Chip.the-variants.{Nct80}
-use Rattle.cards.specs.Rows.{noRegister}
-use Rattle.cards.specs.Sheets.{registerIn}
-use Rattle.cards.specs.Cards.{sheetOf}
-use Rattle.cards.proofs.Tables.{no-register}
+use Rattle.pages.specs.declared.Chip.the-variants.{Nct80}
+use Rattle.pages.specs.Rows.{noRegister}
+use Rattle.pages.specs.Sheets.{registerIn}
+use Rattle.pages.specs.Cards.{sheetOf}
+use Rattle.pages.proofs.Tables.{no-register}
 use borrow.Author.Needs.{needs}
 use Rattle.cards.proofs.register_of.Statement.{statement}
 use Rattle.cards.proofs.register_of.Tie as tie

@@ -1,8 +1,8 @@
 -- `cards::selector_of` meets its contract: each arm has what its page has.
 -- Assumes nothing.
-use Rattle.cards.specs.Cards.{sheetOf}
-use Rattle.cards.specs.Nct7904d.{card}
-use Rattle.cards.specs.Nct7904dBank0 as bank0
+use Rattle.pages.specs.Cards.{sheetOf}
+use Rattle.pages.specs.Nct7904d.{card}
+use Rattle.pages.specs.Nct7904dBank0 as bank0
 use borrow.Author.Needs.{needs}
 use Rattle.cards.proofs.selector_of.Statement.{statement}
 use Rattle.cards.proofs.selector_of.Tie as tie

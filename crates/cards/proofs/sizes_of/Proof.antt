@@ -1,6 +1,6 @@
 -- `cards::sizes_of` meets its contract: each arm has what its page has.
 -- Assumes nothing.
-use Rattle.cards.specs.Cards.{sheetOf}
+use Rattle.pages.specs.Cards.{sheetOf}
 use borrow.Author.Needs.{needs}
 use Rattle.cards.proofs.sizes_of.Statement.{statement}
 use Rattle.cards.proofs.sizes_of.Tie as tie

@@ -3,11 +3,11 @@
 use native.Mathlib.Omega.{arith}
 use Prim.Native.Nat.{ℕ}
 use mathlib.Core.Path.{_≡_}
-use Rattle.cards.specs.declared.types.Chip.the-variants.{Nct80}
-use Rattle.cards.specs.declared.types.Fan.the-variants.{Nothing}
-use Rattle.cards.specs.Sheets.{laidIn}
-use Rattle.cards.specs.Cards.{sheetOf}
-use Rattle.cards.proofs.Tables.{none-laid}
+use Rattle.pages.specs.declared.Chip.the-variants.{Nct80}
+use Rattle.pages.specs.declared.Fan.the-variants.{Nothing}
+use Rattle.pages.specs.Sheets.{laidIn}
+use Rattle.pages.specs.Cards.{sheetOf}
+use Rattle.pages.proofs.Tables.{none-laid}
 use borrow.Author.Needs.{needs}
 use Rattle.cards.proofs.table_of.Statement.{statement}
 use Rattle.cards.proofs.table_of.Tie as tie

@@ -8,7 +8,7 @@ use lib.ListN.{length}
 use Rattle.refusal.specs.Checks.{first}
 use Rattle.refusal.proofs.Numbers.{numberOf-positive}
 use Rattle.refusal.proofs.Passed.{first-refused}
-use Rattle.cards.specs.Cards.{sizeOf}
+use Rattle.pages.specs.Cards.{sizeOf}
 use Rattle.images.specs.Contracts.{imageChecks}
 use Rattle.images.proofs.Admission.{admit-known, admit-refused}
 use Rattle.identities.specs.Identities.{unconfirmed}

@@ -9,10 +9,10 @@ use borrow.Author.Tests.{not-true, not-false}
 use lib.Dec.{ltb}
 use lib.ListN.{length, take}
 use lib.Seq.{take-all}
-use Rattle.cards.specs.declared.types.Required.{Required}
-use Rattle.cards.specs.declared.types.Sizes.{Sizes}
-use Rattle.cards.specs.Cards.{sheetOf, sizeOf}
-use Rattle.cards.specs.Identity.{holds, allHold, confirmed}
+use Rattle.pages.specs.declared.Required.{Required}
+use Rattle.pages.specs.declared.Sizes.{Sizes}
+use Rattle.pages.specs.Cards.{sheetOf, sizeOf}
+use Rattle.pages.specs.Identity.{holds, allHold, confirmed}
 use Rattle.identities.proofs.Asked.{inside, none-asked, one-more, one-fails, all-asked}
 use borrow.Author.Needs.{needs}
 use Rattle.identities.proofs.confirmed.Statement.{statement}

@@ -2,7 +2,7 @@
 -- Assumes nothing.
 use mathlib.Core.Path.{sym, ap, _∙_}
 use borrow.Author.Tests.{eq-eqb, ne-eqb}
-use Rattle.cards.specs.declared.types.Sizes.{Sizes}
+use Rattle.pages.specs.declared.Sizes.{Sizes}
 use borrow.Author.Needs.{needs}
 use Rattle.images.proofs.admit.Statement.{statement}
 use Rattle.images.proofs.admit.Tie as tie

@@ -1,7 +1,7 @@
 -- `images::copy` meets its contract: the places passed hold the bytes of the working image.
 -- Assumes nothing.
 use Rattle.images.proofs.Filling.{Filled, filled-none, filled-more, filled-all}
-use Rattle.cards.specs.Sheets.{greatest}
+use Rattle.pages.specs.Sheets.{greatest}
 use lib.ListN.{length, getD, take, length-take}
 use lib.Seq.{getD-take}
 use native.Mathlib.Omega.{arith}

@@ -1,9 +1,9 @@
 -- `images::power_on_image` meets its contract: the places passed hold the power-on values of their rows.
 -- Assumes nothing.
-use Rattle.cards.proofs.Columns.{column-length, column-at}
-use Rattle.cards.specs.Rows.{column}
-use Rattle.cards.specs.Sheets.{greatest}
-use Rattle.cards.specs.Cards.{rowOf}
+use Rattle.pages.proofs.Columns.{column-length, column-at}
+use Rattle.pages.specs.Rows.{column}
+use Rattle.pages.specs.Sheets.{greatest}
+use Rattle.pages.specs.Cards.{rowOf}
 use Rattle.images.proofs.Filling.{Filled, filled-none, filled-more, filled-all}
 use Prim.Native.Nat.{_-_}
 use native.Mathlib.Omega.{arith}

@@ -3,8 +3,8 @@
 use mathlib.Core.Path.{sym, ap, _∙_}
 use Prim.Native.Nat.{ℕ}
 use Rattle.refusal.proofs.Passed.{told-passed, told-refused}
-use Rattle.cards.specs.declared.types.Named.{Named}
-use Rattle.cards.specs.Cards.{whenKnown}
+use Rattle.pages.specs.declared.Named.{Named}
+use Rattle.pages.specs.Cards.{whenKnown}
 use Rattle.images.specs.Bytes.{seen}
 use Rattle.images.specs.Contracts.{imageChecks}
 use Rattle.images.proofs.Admission.{admit-known, admit-passed, admit-refused}

@@ -6,11 +6,11 @@ use mathlib.Core.Path.{sym, ap, ap₂, _∙_}
 use mathlib.Core.List.{List}
 use lib.ListN.{take}
 use Rattle.refusal.proofs.Passed.{when-passed, when-refused}
-use Rattle.cards.specs.declared.types.Named.{Named}
-use Rattle.cards.specs.Sheets.{greatest, powerOnIn}
-use Rattle.cards.specs.Cards.{sheetOf, rowOf, powerOn, whenKnown}
-use Rattle.cards.proofs.Columns.{column-front}
-use Rattle.cards.proofs.Sound.{sound-sheet}
+use Rattle.pages.specs.declared.Named.{Named}
+use Rattle.pages.specs.Sheets.{greatest, powerOnIn}
+use Rattle.pages.specs.Cards.{sheetOf, rowOf, powerOn, whenKnown}
+use Rattle.pages.proofs.Columns.{column-front}
+use Rattle.pages.proofs.Sound.{sound-sheet}
 use Rattle.images.proofs.Admission.{admit-known, admit-passed, admit-refused}
 use borrow.Author.Needs.{needs}
 use Rattle.images.proofs.reset.Statement.{statement}

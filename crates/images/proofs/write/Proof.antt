@@ -2,8 +2,8 @@
 -- Assumes nothing.
 use mathlib.Core.Path.{sym, ap, _∙_}
 use Rattle.refusal.proofs.Passed.{when-passed, when-refused}
-use Rattle.cards.specs.declared.types.Named.{Named}
-use Rattle.cards.specs.Cards.{whenKnown}
+use Rattle.pages.specs.declared.Named.{Named}
+use Rattle.pages.specs.Cards.{whenKnown}
 use Rattle.images.specs.Bytes.{written}
 use Rattle.images.proofs.Admission.{admit-known, admit-passed, admit-refused}
 use borrow.Author.Needs.{needs}

@@ -7,10 +7,11 @@ use mathlib.Core.Bool.{So, _&&_}
 use borrow.Author.Tests.{not-true, not-false}
 use borrow.Author.Needs.{needs}
 use lib.ListN.{length-append}
-use Rattle.cards.specs.declared.types.Chip.{Chip}
-use Rattle.cards.specs.declared.types.Layout.{Layout}
-use Rattle.cards.specs.Cards.{hasTable, tableOf, layoutOf}
-use Rattle.cards.proofs.Tables.{table-found, table-missed, table-short}
+use Rattle.pages.specs.declared.Chip.{Chip}
+use Rattle.pages.specs.declared.Layout.{Layout}
+use Rattle.pages.specs.Cards.{hasTable, tableOf, layoutOf}
+use Rattle.pages.proofs.Tables.{table-short}
+use Rattle.cards.proofs.Told.{table-found, table-missed}
 use Rattle.curves.specs.declared.Plan.{Plan}
 use Rattle.curves.specs.Values.{Typed}
 use Rattle.curves.proofs.Owned.{plan-typed}

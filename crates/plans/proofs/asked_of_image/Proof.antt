@@ -4,12 +4,12 @@ use Prim.Native.Nat.{ℕ}
 use mathlib.Core.Path.{_≡_, sym, ap, _∙_}
 use mathlib.Core.Bool.{false}
 use borrow.Author.Tests.{eq-eqb, ne-eqb}
-use Rattle.cards.specs.declared.types.Layout.{Layout}
-use Rattle.cards.specs.declared.types.Sizes.{Sizes}
-use Rattle.cards.specs.Rows.{column}
-use Rattle.cards.specs.Sheets.{registerIn}
-use Rattle.cards.specs.Cards.{sheetOf}
-use Rattle.cards.proofs.Tables.{table-found, table-missed}
+use Rattle.pages.specs.declared.Layout.{Layout}
+use Rattle.pages.specs.declared.Sizes.{Sizes}
+use Rattle.pages.specs.Rows.{column}
+use Rattle.pages.specs.Sheets.{registerIn}
+use Rattle.pages.specs.Cards.{sheetOf}
+use Rattle.cards.proofs.Told.{table-found, table-missed}
 use Rattle.curves.specs.declared.Plan.{Plan}
 use Rattle.curves.specs.Planned.{planned, asks}
 use Rattle.bodies.specs.Bodies.{decoded}

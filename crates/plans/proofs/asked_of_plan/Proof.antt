@@ -2,8 +2,8 @@
 -- Assumes nothing.
 use mathlib.Core.Path.{sym, ap, _∙_}
 use Prim.Native.Nat.{ℕ}
-use Rattle.cards.specs.declared.types.Layout.{Layout}
-use Rattle.cards.proofs.Tables.{table-found, table-missed}
+use Rattle.pages.specs.declared.Layout.{Layout}
+use Rattle.cards.proofs.Told.{table-found, table-missed}
 use Rattle.curves.specs.Planned.{planned, asks}
 use borrow.Author.Needs.{needs}
 use Rattle.plans.proofs.asked_of_plan.Statement.{statement}

@@ -3,8 +3,8 @@
 use Prim.Native.Nat.{_+_, _≤_}
 use mathlib.Core.Path.{subst}
 use lib.ListN.{length}
-use Rattle.cards.specs.declared.types.Shape.{Shape}
-use Rattle.cards.specs.Sheets.{room}
+use Rattle.pages.specs.declared.Shape.{Shape}
+use Rattle.pages.specs.Sheets.{room}
 use borrow.Author.Needs.{needs}
 use Rattle.records.proofs.body_in.Statement.{statement}
 use Rattle.records.proofs.body_in.Tie as tie

@@ -8,15 +8,15 @@ use mathlib.Core.List.{List}
 use borrow.Author.Needs.{needs}
 use borrow.Author.Tests.{lt-ltb}
 use lib.ListN.{length}
-use Rattle.cards.specs.declared.types.Chip.{Chip}
-use Rattle.cards.specs.declared.types.Named.the-variants.{Known}
-use Rattle.cards.specs.declared.types.Layout.{Layout}
-use Rattle.cards.specs.Cards.{chipOf, hasTable, layoutOf, shapeOf}
-use Rattle.cards.proofs.Tables.{table-found, table-missed}
+use Rattle.pages.specs.declared.Chip.{Chip}
+use Rattle.pages.specs.declared.Named.the-variants.{Known}
+use Rattle.pages.specs.declared.Layout.{Layout}
+use Rattle.pages.specs.Cards.{chipOf, hasTable, layoutOf, shapeOf}
+use Rattle.cards.proofs.Told.{table-found, table-missed}
 use Rattle.bodies.specs.Bodies.{decoded}
 use Rattle.records.specs.Records.{bodyLength}
-use Rattle.cards.specs.Rows.{column}
-use Rattle.cards.specs.Sheets.{room}
+use Rattle.pages.specs.Rows.{column}
+use Rattle.pages.specs.Sheets.{room}
 use Rattle.bodies.proofs.Laws.{decoded-front}
 use Rattle.records.specs.Parts.{front}
 use Rattle.records.proofs.Encoding.{body-of-table, length-short, body-of-shape}

@@ -9,10 +9,10 @@ use mathlib.Core.List.{List, _++_}
 use borrow.Author.Needs.{needs}
 use lib.ListN.{length, getD, set, take}
 use lib.Seq.{paste, paste-suc, length-paste}
-use Rattle.cards.specs.declared.types.Chip.{Chip}
-use Rattle.cards.specs.declared.types.Layout.{Layout}
-use Rattle.cards.specs.Rows.{column}
-use Rattle.cards.proofs.Columns.{column-length}
+use Rattle.pages.specs.declared.Chip.{Chip}
+use Rattle.pages.specs.declared.Layout.{Layout}
+use Rattle.pages.specs.Rows.{column}
+use Rattle.pages.proofs.Columns.{column-length}
 use Rattle.curves.specs.declared.Plan.{Plan}
 use Rattle.curves.specs.Values.{Sized}
 use Rattle.curves.proofs.Owned.{plan-typed}

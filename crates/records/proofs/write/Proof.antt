@@ -3,9 +3,9 @@
 use mathlib.Core.Path.{_≡_}
 use borrow.Author.Needs.{needs}
 use Rattle.refusal.specs.Checks.{first}
-use Rattle.cards.specs.declared.types.Chip.{Chip}
-use Rattle.cards.specs.declared.types.Named.the-variants.{Known}
-use Rattle.cards.specs.Cards.{chipOf}
+use Rattle.pages.specs.declared.Chip.{Chip}
+use Rattle.pages.specs.declared.Named.the-variants.{Known}
+use Rattle.pages.specs.Cards.{chipOf}
 use Rattle.curves.specs.declared.Plan.{Plan}
 use Rattle.plans.specs.Contracts.{planChecks}
 use Rattle.plans.proofs.Laws.{passed-plan, refused-plan, accepted-plan, accepted-chip}

@@ -3,8 +3,8 @@
 use Prim.Native.Nat.{ℕ}
 use mathlib.Core.Path.{sym, ap, ap₂, subst, _∙_}
 use mathlib.Core.List.{List, [], map}
-use Rattle.cards.specs.declared.types.Named.{Named}
-use Rattle.cards.specs.Cards.{whenKnown}
+use Rattle.pages.specs.declared.Named.{Named}
+use Rattle.pages.specs.Cards.{whenKnown}
 use Rattle.curves.proofs.Owned.{plan-typed}
 use Rattle.plans.proofs.Laws.{refused-plan, accepted-plan, accepted-chip}
 use Rattle.scripts.specs.declared.making.Load.{Load}

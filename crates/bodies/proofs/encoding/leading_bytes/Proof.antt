@@ -4,7 +4,7 @@ use Prim.Native.Nat.{ℕ}
 use mathlib.Core.Path.{ap₂}
 use mathlib.Core.List.{List, _∷_, _++_}
 use lib.ListN.{getD}
-use Rattle.cards.specs.Rows.{column}
+use Rattle.pages.specs.Rows.{column}
 use Rattle.curves.proofs.Registers.{spelled}
 use borrow.Author.Needs.{needs}
 use Rattle.bodies.proofs.encoding.leading_bytes.Statement.{statement}

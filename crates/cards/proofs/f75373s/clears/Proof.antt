@@ -5,10 +5,10 @@ use mathlib.Core.Path.{_≡_, refl, sym, ap}
 use mathlib.Core.Bool.{So, false}
 use mathlib.Core.List.{List, [], _∷_}
 use borrow.Author.Tests.{ne-eqb}
-use Rattle.cards.specs.Rows.{every, rowIn}
-use Rattle.cards.specs.F75373s.{card}
-use Rattle.cards.specs.Banks.{among}
-use Rattle.cards.proofs.Carried.{unclearing, clears-none}
+use Rattle.pages.specs.Rows.{every, rowIn}
+use Rattle.pages.specs.F75373s.{card}
+use Rattle.pages.specs.Banks.{among}
+use Rattle.pages.proofs.Carried.{unclearing, clears-none}
 use Rattle.cards.proofs.f75373s.clears.Statement.{statement}
 use Rattle.cards.proofs.f75373s.clears.Tie as tie
 

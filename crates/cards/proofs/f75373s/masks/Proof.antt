@@ -1,11 +1,11 @@
 -- `cards::f75373s::masks` meets its contract: the array is a column of the card, by computation.
 -- Assumes nothing.
 use borrow.Author.Needs.{needs}
-use Rattle.cards.specs.declared.types.Chip.the-variants.{F75373s}
-use Rattle.cards.specs.Rows.{column}
-use Rattle.cards.specs.Cards.{sheetOf, rowOf}
-use Rattle.cards.specs.F75373s.{card}
-use Rattle.cards.proofs.Lines.{masks-at, masks-beyond}
+use Rattle.pages.specs.declared.Chip.the-variants.{F75373s}
+use Rattle.pages.specs.Rows.{column}
+use Rattle.pages.specs.Cards.{sheetOf, rowOf}
+use Rattle.pages.specs.F75373s.{card}
+use Rattle.pages.proofs.Lines.{masks-at, masks-beyond}
 use Rattle.cards.proofs.f75373s.masks.Statement.{statement}
 use Rattle.cards.proofs.f75373s.masks.Tie as tie
 

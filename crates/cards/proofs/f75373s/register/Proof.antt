@@ -4,11 +4,11 @@ use Prim.Native.Nat.{ℕ}
 use native.Mathlib.Omega.{arith}
 use mathlib.Core.Path.{sym, ap, _∙_}
 use borrow.Author.Needs.{needs}
-use Rattle.cards.specs.declared.types.Chip.the-variants.{F75373s}
-use Rattle.cards.specs.F75373s.{card}
-use Rattle.cards.specs.Sheets.{registerIn}
-use Rattle.cards.specs.Cards.{sheetOf}
-use Rattle.cards.proofs.Tables.{no-register}
+use Rattle.pages.specs.declared.Chip.the-variants.{F75373s}
+use Rattle.pages.specs.F75373s.{card}
+use Rattle.pages.specs.Sheets.{registerIn}
+use Rattle.pages.specs.Cards.{sheetOf}
+use Rattle.pages.proofs.Tables.{no-register}
 use Rattle.cards.proofs.f75373s.register.Statement.{statement}
 use Rattle.cards.proofs.f75373s.register.Tie as tie
 

@@ -1,10 +1,10 @@
 -- `cards::f75373s::table` meets its contract: the tables are laid out as the first.
 -- Assumes nothing.
 use native.Mathlib.Omega.{arith}
-use Rattle.cards.specs.declared.types.Chip.the-variants.{F75373s}
-use Rattle.cards.specs.F75373s.{card}
-use Rattle.cards.specs.Cards.{sheetOf}
-use Rattle.cards.proofs.Tables.{laid-first, none-laid}
+use Rattle.pages.specs.declared.Chip.the-variants.{F75373s}
+use Rattle.pages.specs.F75373s.{card}
+use Rattle.pages.specs.Cards.{sheetOf}
+use Rattle.pages.proofs.Tables.{laid-first, none-laid}
 use Rattle.cards.proofs.f75373s.table.Statement.{statement}
 use Rattle.cards.proofs.f75373s.table.Tie as tie
 

@@ -4,11 +4,11 @@ use Prim.Native.Nat.{ℕ}
 use native.Mathlib.Omega.{arith}
 use mathlib.Core.Path.{sym, ap, _∙_}
 use borrow.Author.Needs.{needs}
-use Rattle.cards.specs.declared.types.Chip.the-variants.{Nct7802y}
-use Rattle.cards.specs.Nct7802y.{card}
-use Rattle.cards.specs.Sheets.{registerIn}
-use Rattle.cards.specs.Cards.{sheetOf}
-use Rattle.cards.proofs.Tables.{no-register}
+use Rattle.pages.specs.declared.Chip.the-variants.{Nct7802y}
+use Rattle.pages.specs.Nct7802y.{card}
+use Rattle.pages.specs.Sheets.{registerIn}
+use Rattle.pages.specs.Cards.{sheetOf}
+use Rattle.pages.proofs.Tables.{no-register}
 use Rattle.cards.proofs.nct7802y.register.Statement.{statement}
 use Rattle.cards.proofs.nct7802y.register.Tie as tie
 

@@ -1,10 +1,10 @@
 -- `cards::nct7802y::table` meets its contract: the tables are laid out as the first.
 -- Assumes nothing.
 use native.Mathlib.Omega.{arith}
-use Rattle.cards.specs.declared.types.Chip.the-variants.{Nct7802y}
-use Rattle.cards.specs.Nct7802y.{card}
-use Rattle.cards.specs.Cards.{sheetOf}
-use Rattle.cards.proofs.Tables.{laid-first, none-laid}
+use Rattle.pages.specs.declared.Chip.the-variants.{Nct7802y}
+use Rattle.pages.specs.Nct7802y.{card}
+use Rattle.pages.specs.Cards.{sheetOf}
+use Rattle.pages.proofs.Tables.{laid-first, none-laid}
 use Rattle.cards.proofs.nct7802y.table.Statement.{statement}
 use Rattle.cards.proofs.nct7802y.table.Tie as tie
 

@@ -5,9 +5,9 @@ use native.Mathlib.Omega.{arith}
 use mathlib.Core.List.{List, [], _∷_, map}
 use mathlib.Core.Path.{_≡_, sym, ap, _∙_}
 use lib.ListN.{length, getD, length-map, List·getD-eq-default}
-use Rattle.cards.specs.Rows.{row, masksIn, positions, withMasks, noRegister}
-use Rattle.cards.specs.Nct7904d.{table}
-use Rattle.cards.proofs.Every.{map-at}
+use Rattle.pages.specs.Rows.{row, masksIn, positions, withMasks, noRegister}
+use Rattle.pages.specs.Nct7904d.{table}
+use Rattle.pages.proofs.Every.{map-at}
 use borrow.Author.Needs.{needs}
 use Rattle.cards.proofs.nct7904d.in_table.Statement.{statement}
 use Rattle.cards.proofs.nct7904d.in_table.Tie as tie

@@ -3,16 +3,16 @@
 use Prim.Native.Nat.{ℕ, _+_, _*_, _/_, _%_}
 use native.Mathlib.Omega.{arith}
 use mathlib.Core.Path.{_≡_, refl, ap, ap₂, _∙_}
-use Rattle.cards.specs.declared.types.Chip.the-variants.{Nct7904d}
-use Rattle.cards.specs.Rows.{row, masksIn, rowIn}
-use Rattle.cards.specs.Cards.{sheetOf, rowOf}
-use Rattle.cards.specs.Nct7904d.{card}
-use Rattle.cards.specs.Nct7904dBank0 as bank0
-use Rattle.cards.specs.Nct7904dBank1 as bank1
-use Rattle.cards.specs.Nct7904dBank2 as bank2
-use Rattle.cards.specs.Nct7904dBank3 as bank3
-use Rattle.cards.specs.Nct7904dBank4 as bank4
-use Rattle.cards.proofs.Lines.{clearless}
+use Rattle.pages.specs.declared.Chip.the-variants.{Nct7904d}
+use Rattle.pages.specs.Rows.{row, masksIn, rowIn}
+use Rattle.pages.specs.Cards.{sheetOf, rowOf}
+use Rattle.pages.specs.Nct7904d.{card}
+use Rattle.pages.specs.Nct7904dBank0 as bank0
+use Rattle.pages.specs.Nct7904dBank1 as bank1
+use Rattle.pages.specs.Nct7904dBank2 as bank2
+use Rattle.pages.specs.Nct7904dBank3 as bank3
+use Rattle.pages.specs.Nct7904dBank4 as bank4
+use Rattle.pages.proofs.Lines.{clearless}
 use Rattle.cards.proofs.nct7904d.masks.Statement.{statement}
 use Rattle.cards.proofs.nct7904d.masks.Tie as tie
 

@@ -2,7 +2,7 @@
 -- Assumes nothing.
 use borrow.Author.Needs.{needs}
 use borrow.Author.Tests.{ne-eqb}
-use Rattle.cards.specs.Cards.{sheetOf}
+use Rattle.pages.specs.Cards.{sheetOf}
 use Rattle.cards.proofs.nct7904d.position.Statement.{statement}
 use Rattle.cards.proofs.nct7904d.position.Tie as tie
 

@@ -3,9 +3,9 @@
 use Prim.Native.Nat.{ℕ, _+_, _*_, _/_, _%_}
 use native.Mathlib.Omega.{arith}
 use mathlib.Core.Path.{_≡_, ap, _∙_}
-use Rattle.cards.specs.Rows.{rowIn}
-use Rattle.cards.specs.Cards.{sheetOf, rowOf}
-use Rattle.cards.specs.Nct7904d.{card}
+use Rattle.pages.specs.Rows.{rowIn}
+use Rattle.pages.specs.Cards.{sheetOf, rowOf}
+use Rattle.pages.specs.Nct7904d.{card}
 use Rattle.cards.proofs.nct7904d.power.Statement.{statement}
 use Rattle.cards.proofs.nct7904d.power.Tie as tie
 

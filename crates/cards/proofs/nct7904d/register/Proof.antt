@@ -5,16 +5,16 @@ use native.Mathlib.Nat.{lt-irrefl, lt-of-lt-of-le}
 use native.Mathlib.Omega.{arith}
 use mathlib.Core.Path.{_≡_, sym, ap, _∙_}
 use borrow.Author.Needs.{needs}
-use Rattle.cards.specs.declared.types.Chip.the-variants.{Nct7904d}
-use Rattle.cards.specs.Nct7904d.{card}
-use Rattle.cards.specs.Nct7904dBank0 as bank0
-use Rattle.cards.specs.Nct7904dBank1 as bank1
-use Rattle.cards.specs.Nct7904dBank2 as bank2
-use Rattle.cards.specs.Nct7904dBank3 as bank3
-use Rattle.cards.specs.Nct7904dBank4 as bank4
-use Rattle.cards.specs.Sheets.{registerIn}
-use Rattle.cards.specs.Cards.{sheetOf}
-use Rattle.cards.proofs.Tables.{no-register}
+use Rattle.pages.specs.declared.Chip.the-variants.{Nct7904d}
+use Rattle.pages.specs.Nct7904d.{card}
+use Rattle.pages.specs.Nct7904dBank0 as bank0
+use Rattle.pages.specs.Nct7904dBank1 as bank1
+use Rattle.pages.specs.Nct7904dBank2 as bank2
+use Rattle.pages.specs.Nct7904dBank3 as bank3
+use Rattle.pages.specs.Nct7904dBank4 as bank4
+use Rattle.pages.specs.Sheets.{registerIn}
+use Rattle.pages.specs.Cards.{sheetOf}
+use Rattle.pages.proofs.Tables.{no-register}
 use Rattle.cards.proofs.nct7904d.register.Statement.{statement}
 use Rattle.cards.proofs.nct7904d.register.Tie as tie
 

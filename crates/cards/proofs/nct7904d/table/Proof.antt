@@ -1,15 +1,15 @@
 -- `cards::nct7904d::table` meets its contract: the tables are laid out as the first.
 -- Assumes nothing.
 use native.Mathlib.Omega.{arith}
-use Rattle.cards.specs.declared.types.Chip.the-variants.{Nct7904d}
-use Rattle.cards.specs.Nct7904d.{card}
-use Rattle.cards.specs.Nct7904dBank0 as bank0
-use Rattle.cards.specs.Nct7904dBank1 as bank1
-use Rattle.cards.specs.Nct7904dBank2 as bank2
-use Rattle.cards.specs.Nct7904dBank3 as bank3
-use Rattle.cards.specs.Nct7904dBank4 as bank4
-use Rattle.cards.specs.Cards.{sheetOf}
-use Rattle.cards.proofs.Tables.{laid-first, none-laid}
+use Rattle.pages.specs.declared.Chip.the-variants.{Nct7904d}
+use Rattle.pages.specs.Nct7904d.{card}
+use Rattle.pages.specs.Nct7904dBank0 as bank0
+use Rattle.pages.specs.Nct7904dBank1 as bank1
+use Rattle.pages.specs.Nct7904dBank2 as bank2
+use Rattle.pages.specs.Nct7904dBank3 as bank3
+use Rattle.pages.specs.Nct7904dBank4 as bank4
+use Rattle.pages.specs.Cards.{sheetOf}
+use Rattle.pages.proofs.Tables.{laid-first, none-laid}
 use Rattle.cards.proofs.nct7904d.table.Statement.{statement}
 use Rattle.cards.proofs.nct7904d.table.Tie as tie
 

@@ -1,12 +1,12 @@
 -- `cards::nct80::power` meets its contract: the array is the power-on column of the card, by computation.
 -- Assumes nothing.
 use borrow.Author.Needs.{needs}
-use Rattle.cards.specs.declared.types.Chip.the-variants.{Nct80}
-use Rattle.cards.specs.Rows.{column}
-use Rattle.cards.specs.Sheets.{powerOnIn}
-use Rattle.cards.specs.Cards.{sheetOf}
-use Rattle.cards.specs.Nct80.{card}
-use Rattle.cards.proofs.Lines.{power-at, power-beyond}
+use Rattle.pages.specs.declared.Chip.the-variants.{Nct80}
+use Rattle.pages.specs.Rows.{column}
+use Rattle.pages.specs.Sheets.{powerOnIn}
+use Rattle.pages.specs.Cards.{sheetOf}
+use Rattle.pages.specs.Nct80.{card}
+use Rattle.pages.proofs.Lines.{power-at, power-beyond}
 use Rattle.cards.proofs.nct80.power.Statement.{statement}
 use Rattle.cards.proofs.nct80.power.Tie as tie
 

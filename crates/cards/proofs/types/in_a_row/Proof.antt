@@ -4,9 +4,9 @@ use native.Mathlib.Omega.{arith}
 use mathlib.Core.List.{map}
 use mathlib.Core.Path.{sym, ap, _∙_}
 use lib.ListN.{length-map, List·getD-eq-default}
-use Rattle.cards.specs.Rows.{from, withMasks, noRegister}
-use Rattle.cards.proofs.Columns.{run-length, run-at}
-use Rattle.cards.proofs.Every.{map-at}
+use Rattle.pages.specs.Rows.{from, withMasks, noRegister}
+use Rattle.pages.proofs.Columns.{run-length, run-at}
+use Rattle.pages.proofs.Every.{map-at}
 use borrow.Author.Needs.{needs}
 use Rattle.cards.proofs.types.in_a_row.Statement.{statement}
 use Rattle.cards.proofs.types.in_a_row.Tie as tie

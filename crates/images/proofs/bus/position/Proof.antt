@@ -2,8 +2,8 @@
 -- Assumes nothing.
 use Prim.Native.Nat.{ℕ}
 use mathlib.Core.Path.{sym, ap, _∙_}
-use Rattle.cards.specs.Banks.{standsIn}
-use Rattle.cards.specs.Cards.{banksOf}
+use Rattle.pages.specs.Banks.{standsIn}
+use Rattle.pages.specs.Cards.{banksOf}
 use borrow.Author.Needs.{needs}
 use Rattle.images.proofs.Landing.{lands}
 use Rattle.images.proofs.bus.position.Statement.{statement}

@@ -2,7 +2,7 @@
 -- Assumes nothing.
 use Prim.Native.Nat.{ℕ}
 use mathlib.Core.Path.{ap, _∙_}
-use Rattle.cards.specs.declared.types.Masks.{Masks}
+use Rattle.pages.specs.declared.Masks.{Masks}
 use Rattle.images.specs.Bytes.{storedAt, placed}
 use borrow.Author.Needs.{needs}
 use Rattle.images.proofs.bus.store.Statement.{statement}

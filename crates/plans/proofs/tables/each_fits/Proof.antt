@@ -10,9 +10,9 @@ use borrow.Author.Tests.{eq-eqb, ne-eqb}
 use lib.Bits.{bitAnd}
 use lib.Dec.{eqb}
 use lib.ListN.{getD}
-use Rattle.cards.specs.declared.types.Register.{Register}
-use Rattle.cards.specs.Sheets.{registerIn}
-use Rattle.cards.specs.Cards.{sheetOf}
+use Rattle.pages.specs.declared.Register.{Register}
+use Rattle.pages.specs.Sheets.{registerIn}
+use Rattle.pages.specs.Cards.{sheetOf}
 use Rattle.plans.specs.Parts.{fitFrom}
 use borrow.Author.Needs.{needs}
 use Rattle.plans.proofs.tables.each_fits.Statement.{statement}

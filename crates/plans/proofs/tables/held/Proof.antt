@@ -2,11 +2,11 @@
 -- Assumes nothing.
 use Prim.Native.Nat.{_-_}
 use mathlib.Core.Path.{refl, ap, _∙_}
-use Rattle.cards.specs.declared.types.Register.{Register}
-use Rattle.cards.specs.Rows.{column}
-use Rattle.cards.specs.Sheets.{registerIn}
-use Rattle.cards.specs.Cards.{sheetOf}
-use Rattle.cards.proofs.Columns.{column-length, column-at}
+use Rattle.pages.specs.declared.Register.{Register}
+use Rattle.pages.specs.Rows.{column}
+use Rattle.pages.specs.Sheets.{registerIn}
+use Rattle.pages.specs.Cards.{sheetOf}
+use Rattle.pages.proofs.Columns.{column-length, column-at}
 use Rattle.plans.specs.Parts.{worthAt}
 use Rattle.images.proofs.Filling.{Filled, filled-none, filled-more, filled-all}
 use borrow.Author.Needs.{needs}

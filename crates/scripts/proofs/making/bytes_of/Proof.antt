@@ -2,8 +2,8 @@
 -- Assumes nothing.
 use mathlib.Core.Path.{ap, _∙_}
 use lib.ListN.{getD}
-use Rattle.cards.specs.declared.types.Layout.{Layout}
-use Rattle.cards.specs.Rows.{column}
+use Rattle.pages.specs.declared.Layout.{Layout}
+use Rattle.pages.specs.Rows.{column}
 use Rattle.curves.specs.Planned.{planned}
 use Rattle.bodies.specs.Bodies.{body}
 use borrow.Author.Needs.{needs}

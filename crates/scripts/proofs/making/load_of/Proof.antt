@@ -1,7 +1,7 @@
 -- `making::load_of` meets its contract: each part is as the table's layout has it.
 -- Assumes nothing.
 use mathlib.Core.Path.{ap, _∙_}
-use Rattle.cards.specs.declared.types.Layout.{Layout}
+use Rattle.pages.specs.declared.Layout.{Layout}
 use Rattle.curves.specs.Planned.{fullOf}
 use borrow.Author.Needs.{needs}
 use Rattle.scripts.proofs.making.load_of.Statement.{statement}

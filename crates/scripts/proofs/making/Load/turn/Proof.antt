@@ -2,10 +2,10 @@
 -- Assumes nothing.
 use Prim.Native.Nat.{_/_, _^_, _<_}
 use mathlib.Core.Path.{_≡_, sym, ap, subst, _∙_}
-use Rattle.cards.specs.declared.types.Register.{Register}
-use Rattle.cards.specs.Sheets.{registerIn}
-use Rattle.cards.specs.Cards.{sheetOf}
-use Rattle.cards.proofs.Tables.{register-bank}
+use Rattle.pages.specs.declared.Register.{Register}
+use Rattle.pages.specs.Sheets.{registerIn}
+use Rattle.pages.specs.Cards.{sheetOf}
+use Rattle.pages.proofs.Tables.{register-bank}
 use Rattle.scripts.specs.Making.{placeAt, registerOf}
 use Rattle.scripts.proofs.Turns.{turn-ready, turn-select}
 use borrow.Author.Needs.{needs}

@@ -1,0 +1,47 @@
+-- "In each row the two masks share no bit", and both are bytes: of any page that passes its test, carried from its lines to the row of every address.
+-- Assumes nothing.
+use Prim.Native.Nat.{ℕ, _^_, _<_}
+use native.Mathlib.Nat.{lt-of-le-of-lt}
+use native.Mathlib.Omega.{arith}
+use mathlib.Core.Path.{_≡_, refl, subst}
+use borrow.Author.Tests.{eqb-true, ltb-true}
+use lib.Dec.{ltb}
+use lib.Bits.{bitAnd, and-le-r}
+use Rattle.pages.specs.declared.Chip.{Chip}
+use Rattle.pages.specs.Rows.{Row, rowIn}
+use Rattle.pages.specs.Sheets.{Sheet}
+use Rattle.pages.specs.Cards.{sheetOf, rowOf}
+use Rattle.pages.proofs.Every.{both}
+use Rattle.pages.proofs.Carried.{carried}
+use Rattle.pages.proofs.Sound.{disjoint, narrow, Sound, sound-sheet}
+
+abbrev Apart : Row → Type 0
+Apart r = bitAnd (r .writable) (r .clears) ≡ 0
+
+abbrev Narrow : Row → Type 0
+Narrow r = (r .writable < 2 ^ 8) × (r .clears < 2 ^ 8)
+
+module _ (sheet : Sheet) (S : Sound sheet) (address : ℕ) where
+  sheet-apart : Apart (rowIn (sheet .card) address)
+  sheet-apart =
+      carried (λ a r. Apart r) disjoint (λ a. refl) (λ l t. eqb-true (bitAnd (l .1) (l .2)) 0 t) (sheet .card) (S .masks) address
+
+  sheet-narrow : Narrow (rowIn (sheet .card) address)
+  sheet-narrow =
+      carried (λ a r. Narrow r) narrow (λ a. (omega arith, omega arith))
+      (λ l t. let parts = both (ltb (l .1) (2 ^ 8)) _ t in (ltb-true (l .1) (2 ^ 8) (parts .0), ltb-true (l .2) (2 ^ 8) (parts .1)))
+      (sheet .card) (S .bytes) address
+
+module _ (chip : Chip) (address : ℕ) where
+  pub masks-apart : bitAnd (rowOf chip address .writable) (rowOf chip address .clears) ≡ 0
+  unfolding rowOf
+  masks-apart = sheet-apart (sheetOf chip) (sound-sheet chip) address
+
+  pub masks-narrow : (rowOf chip address .writable < 2 ^ 8) × (rowOf chip address .clears < 2 ^ 8)
+  unfolding rowOf
+  masks-narrow = sheet-narrow (sheetOf chip) (sound-sheet chip) address
+
+  -- so a value that fits is a byte
+  pub fitting-byte : (value : ℕ) → bitAnd value (rowOf chip address .writable) ≡ value → value < 2 ^ 8
+  fitting-byte value fits =
+      subst (λ (v : ℕ). v < 2 ^ 8) fits (lt-of-le-of-lt (and-le-r value (rowOf chip address .writable)) (masks-narrow .0))

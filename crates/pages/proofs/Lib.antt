@@ -1,0 +1,13 @@
+pub mod Columns
+pub mod Every
+pub mod Carried
+pub mod Pages
+pub mod BankRows
+pub mod Sound
+pub mod Apart
+pub mod Lines
+pub mod FixedPoints
+pub mod Registers
+pub mod Tables
+pub mod Numbers
+pub mod Selectors

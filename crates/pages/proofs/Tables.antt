@@ -1,0 +1,246 @@
+-- The registers of a fan table are distinct positions that the bus reaches, and a speed's takes the full duty: of any page that passes its test,
+-- carried to each register; and what the answers of `table_of` and `register_of` tell of them.
+-- Assumes nothing.
+use Prim.Native.Nat.{ℕ, zero, suc, _+_, _*_, _/_, _^_, _≤_, _<_}
+use native.Mathlib.Nat.{mod-eq-of-lt}
+use native.Mathlib.Omega.{arith}
+use mathlib.Core.Path.{_≡_, refl, sym, ap, subst, _∙_}
+use mathlib.Core.Bool.{Bool, true, false, So, cond, true≢false, _&&_}
+use mathlib.Core.List.{List, [], _∷_, map}
+use borrow.Author.Tests.{leb-false, eqb-true, ltb-true, ltb-false, leb-true, le-leb}
+use lib.Bits.{bitAnd, and-mask}
+use lib.Dec.{eqb, leb, ltb}
+use lib.ListN.{length, getD, List·getD-eq-default}
+use Rattle.pages.specs.declared.Chip.{Chip}
+use Rattle.pages.specs.declared.Shape.{Shape}
+use Rattle.pages.specs.declared.Shape.the-variants.{Slope, Steps}
+use Rattle.pages.specs.declared.Layout.{Layout}
+use Rattle.pages.specs.declared.Fan.{Fan}
+use Rattle.pages.specs.declared.Fan.the-variants.{Laid, Nothing}
+use Rattle.pages.specs.Banks.{noBank, selectsFrom}
+use Rattle.pages.specs.Rows.{every, Line, Table, positions, rowIn, registerAt, noRegister}
+use Rattle.pages.specs.Sheets.{Sheet, missing, room, hasTableIn, tableIn, wholeIn, loaded, layout, laidIn, registerIn}
+use Rattle.pages.specs.Cards.{sheetOf, cardOf, banksOf, sizeOf, rowOf, tablesOf, hasTable, tableOf, shapeOf, layoutOf}
+use Rattle.pages.proofs.Every.{both, of-every, everywhere, map-at, distinct, apart}
+use Rattle.pages.proofs.Sound.{stands, reaches, reachesAt, separate, sized, ofShape, both-or-neither, alike, brief, Sound, sound-sheet}
+
+-- tables have the numbers from 1 on
+numbered : (tables : List Table) (number : ℕ) → So (hasTableIn tables number) → (1 ≤ number) × (number ≤ length tables)
+numbered tables number t =
+    let parts = both (leb 1 number) (leb number (length tables)) t in
+    (leb-true 1 number (parts .0), leb-true number (length tables) (parts .1))
+
+neither : (a b : Bool) → (a ≡ true → b ≡ true → ⊥) → (a && b) ≡ false
+neither true true h = absurd (h refl refl)
+neither true false h = refl
+neither false b h = refl
+
+-- and no others
+pub no-number : (number count : ℕ) → (1 ≤ number → number ≤ count → ⊥) → (leb 1 number && leb number count) ≡ false
+no-number number count h =
+    neither (leb 1 number) (leb number count) (λ p q. h (leb-true 1 number p) (leb-true number count q))
+
+-- where there is no table, none is missed
+no-table : (tables : List Table) (number : ℕ) → hasTableIn tables number ≡ false → tableIn tables number ≡ missing
+no-table tables zero e = refl
+no-table tables (suc n) e = List·getD-eq-default tables missing (omega (arith, leb-false (suc n) (length tables) (rw (le-leb 1 (suc n) (omega arith)) at e)))
+
+-- and there is no register
+pub no-register : (sheet : Sheet) (number k : ℕ) → (1 ≤ number → number ≤ length (sheet .tables) → ⊥) → registerIn sheet number k ≡ noRegister
+no-register sheet zero k h = refl
+no-register sheet (suc n) k h =
+    ap (λ (t : Table). getD (map (registerAt (sheet .card)) (positions t)) k noRegister)
+    (List·getD-eq-default (sheet .tables) missing (beyond (h (omega arith))))
+  where
+    beyond : (suc n ≤ length (sheet .tables) → ⊥) → length (sheet .tables) ≤ n
+    beyond f = omega (arith, f)
+
+-- the registers at some positions stand there, and what stands in behind the last is at 0
+position-among : (card : List Line) (ps : List ℕ) (k : ℕ) → getD (map (registerAt card) ps) k noRegister .position ≡ getD ps k 0
+position-among card [] k = refl
+position-among card (p ∷ ps) zero = refl
+position-among card (p ∷ ps) (suc k) = position-among card ps k
+
+one-shape : (a b : Shape) → So (ofShape a b) → a ≡ b
+one-shape (Slope full) (Slope other) t = ap Slope (eqb-true full other t)
+one-shape (Slope full) Steps t = absurd (true≢false (sym t))
+one-shape Steps (Slope other) t = absurd (true≢false (sym t))
+one-shape Steps Steps t = refl
+
+one-answer : (a b : Bool) → So (both-or-neither a b) → a ≡ b
+one-answer true true t = refl
+one-answer true false t = absurd (true≢false (sym t))
+one-answer false true t = absurd (true≢false (sym t))
+one-answer false false t = refl
+
+-- a table that is like another is laid out as it
+laid-alike : (sheet : Sheet) (other table : Table) → So (alike sheet other table)
+    → layout (sheet .banks) (sheet .card) table ≡ layout (sheet .banks) (sheet .card) other
+laid-alike sheet other table t =
+    let shape = both (ofShape (table .shape) (other .shape)) _ t in
+    let settings = both (eqb (length (table .settings)) (length (other .settings))) _ (shape .1) in
+    let speeds = both (eqb (length (table .speeds)) (length (other .speeds))) _ (settings .1) in
+    let whole = both (both-or-neither (wholeIn (sheet .card) table) (wholeIn (sheet .card) other)) _ (speeds .1) in
+    let selects = both (eqb (selectsFrom (sheet .banks) noBank (loaded table)) (selectsFrom (sheet .banks) noBank (loaded other))) _ (whole .1) in
+    (λ i. record {
+      settings = eqb-true (length (table .settings)) (length (other .settings)) (settings .0) i;
+      speeds = eqb-true (length (table .speeds)) (length (other .speeds)) (speeds .0) i;
+      shape = one-shape (table .shape) (other .shape) (shape .0) i;
+      whole = one-answer (wholeIn (sheet .card) table) (wholeIn (sheet .card) other) (whole .0) i;
+      selects = eqb-true (selectsFrom (sheet .banks) noBank (loaded table)) (selectsFrom (sheet .banks) noBank (loaded other)) (selects .0) i;
+      leading = one-answer (table .leading) (other .leading) (selects .1) i;
+    })
+
+-- of any page that passes, and any number: a table that is missing has no register to speak of
+module _ (sheet : Sheet) (S : Sound sheet) (number : ℕ) where
+  abbrev table : Table
+  table = tableIn (sheet .tables) number
+
+  tested-table : So (separate sheet table)
+  tested-table = everywhere (separate sheet) (missing ∷ sheet .tables) missing refl (S .tables) number
+
+  all-stand : So (every (stands sheet) (positions table))
+  all-stand = both (every (stands sheet) (positions table)) _ tested-table .0
+
+  beside : So (distinct (positions table)) × So (leb (length (positions table)) 14 && every (reachesAt sheet (table .shape)) (table .speeds))
+  beside = both (distinct (positions table)) _ (both (every (stands sheet) (positions table)) _ tested-table .1)
+
+  sheet-distinct : (j k : ℕ) → j < length (positions table) → k < length (positions table)
+      → getD (positions table) j 0 ≡ getD (positions table) k 0 → j ≡ k
+  sheet-distinct = apart (positions table) (beside .0)
+
+  sheet-short : length (positions table) ≤ 14
+  sheet-short = leb-true (length (positions table)) 14 (both (leb (length (positions table)) 14) _ (beside .1) .0)
+
+  sheet-reaches : (k : ℕ) → k < length (table .speeds) → So (reaches (table .shape) (rowIn (sheet .card) (getD (table .speeds) k 0) .writable))
+  sheet-reaches = of-every (reachesAt sheet (table .shape)) (table .speeds) 0 (both (leb (length (positions table)) 14) _ (beside .1) .1)
+
+  sheet-inside : (k : ℕ) → k < length (positions table) → getD (positions table) k 0 < sheet .size
+  sheet-inside k h =
+      let position = getD (positions table) k 0 in
+      ltb-true position (sheet .size) (both (ltb position (sheet .size)) _ (of-every (stands sheet) (positions table) 0 all-stand k h) .0)
+
+-- of a table that it has
+module _ (sheet : Sheet) (S : Sound sheet) (number : ℕ) (has : So (hasTableIn (sheet .tables) number)) where
+  of-tables : (test : Table → Bool) → So (every test (sheet .tables)) → So (test (tableIn (sheet .tables) number))
+  of-tables test t = by-number number (numbered (sheet .tables) number has)
+    where
+      by-number : (n : ℕ) → (1 ≤ n) × (n ≤ length (sheet .tables)) → So (test (tableIn (sheet .tables) n))
+      by-number zero h = absurd (omega (arith, h .0))
+      by-number (suc n) h = of-every test (sheet .tables) missing t n (h .1)
+
+  sheet-laid : layout (sheet .banks) (sheet .card) (tableIn (sheet .tables) number) ≡ layout (sheet .banks) (sheet .card) (tableIn (sheet .tables) 1)
+  sheet-laid =
+      laid-alike sheet (tableIn (sheet .tables) 1) (tableIn (sheet .tables) number)
+      (of-tables (alike sheet (tableIn (sheet .tables) 1)) (S .rows))
+
+  sheet-brief : So (brief (layout (sheet .banks) (sheet .card) (tableIn (sheet .tables) number)))
+  sheet-brief = of-tables (λ table. brief (layout (sheet .banks) (sheet .card) table)) (S .texts)
+
+  sheet-sized : (length (tableIn (sheet .tables) number .settings) ≡ room (tableIn (sheet .tables) number .shape) .0)
+      × (length (tableIn (sheet .tables) number .speeds) ≡ room (tableIn (sheet .tables) number .shape) .1)
+  sheet-sized =
+      let table = tableIn (sheet .tables) number in
+      let parts = both (eqb (length (table .settings)) (room (table .shape) .0)) _ (of-tables sized (S .sizes)) in (
+        eqb-true (length (table .settings)) (room (table .shape) .0) (parts .0),
+        eqb-true (length (table .speeds)) (room (table .shape) .1) (parts .1),
+      )
+
+module _ (chip : Chip) (number : ℕ) where
+  -- no more registers than the longest body has bytes
+  pub table-short : length (positions (tableOf chip number)) ≤ 14
+  table-short = sheet-short (sheetOf chip) (sound-sheet chip) number
+
+  -- each is inside the image
+  pub table-within : (k : ℕ) → k < length (positions (tableOf chip number)) → getD (positions (tableOf chip number)) k 0 < sizeOf chip
+  table-within k h = sheet-inside (sheetOf chip) (sound-sheet chip) number k h
+
+  -- no two registers of a table share a position
+  pub table-distinct : (j k : ℕ) → j < length (positions (tableOf chip number)) → k < length (positions (tableOf chip number))
+      → getD (positions (tableOf chip number)) j 0 ≡ getD (positions (tableOf chip number)) k 0 → j ≡ k
+  table-distinct = sheet-distinct (sheetOf chip) (sound-sheet chip) number
+
+  -- a speed's register takes the full duty, and nothing above it
+  pub table-reaches : (k : ℕ) → k < length (tableOf chip number .speeds)
+      → So (reaches (shapeOf chip number) (rowOf chip (getD (tableOf chip number .speeds) k 0) .writable))
+  unfolding rowOf
+  table-reaches k h = sheet-reaches (sheetOf chip) (sound-sheet chip) number k h
+
+  -- what `register_of` tells: each register with its own masks ..
+  pub register-at : (k : ℕ) → k < length (positions (tableOf chip number))
+      → registerIn (sheetOf chip) number k ≡ registerAt (cardOf chip) (getD (positions (tableOf chip number)) k 0)
+  register-at = map-at (registerAt (cardOf chip)) (positions (tableOf chip number)) 0 noRegister
+
+  -- .. at its position, and 0 where there is none
+  pub register-position : (k : ℕ) → registerIn (sheetOf chip) number k .position ≡ getD (positions (tableOf chip number)) k 0
+  register-position k = position-among (cardOf chip) (positions (tableOf chip number)) k
+
+  -- so its bank's number is a byte
+  pub register-bank : (k : ℕ) → registerIn (sheetOf chip) number k .position / 256 < 2 ^ 8
+  register-bank k = by-place (ltb k (length (positions (tableOf chip number)))) refl
+    where
+      by-place : (there : Bool) → ltb k (length (positions (tableOf chip number))) ≡ there → registerIn (sheetOf chip) number k .position / 256 < 2 ^ 8
+      by-place true e =
+          omega (arith, register-position k, table-within k (ltb-true k (length (positions (tableOf chip number))) e), sound-sheet chip .size)
+      by-place false e =
+          omega (arith, register-position k, List·getD-eq-default (positions (tableOf chip number)) 0 (ltb-false k (length (positions (tableOf chip number))) e))
+
+  -- all of them stand where the bus reaches them
+  pub table-stands : So (every (stands (sheetOf chip)) (positions (tableOf chip number)))
+  table-stands = all-stand (sheetOf chip) (sound-sheet chip) number
+
+  -- where every register takes every bit
+  pub whole-mask : layoutOf chip number .whole ≡ true → (k : ℕ) → k < length (positions (tableOf chip number))
+      → rowOf chip (getD (positions (tableOf chip number)) k 0) .writable ≡ 0xFF
+  unfolding rowOf
+  whole-mask t k h =
+      eqb-true (rowIn (cardOf chip) (getD (positions (tableOf chip number)) k 0) .writable) 0xFF
+      (of-every (λ p. eqb (rowIn (cardOf chip) p .writable) 0xFF) (positions (tableOf chip number)) 0 t k h)
+
+-- there each byte fits
+pub byte-fits : (value : ℕ) → value < 2 ^ 8 → bitAnd value 0xFF ≡ value
+byte-fits value h = and-mask value 8 ∙ mod-eq-of-lt h
+
+pub table-none : (chip : Chip) (number : ℕ) → hasTable chip number ≡ false → tableOf chip number ≡ missing
+table-none chip number = no-table (tablesOf chip) number
+
+module _ (chip : Chip) (number : ℕ) (has : So (hasTable chip number)) where
+  pub table-number : (1 ≤ number) × (number ≤ length (tablesOf chip))
+  table-number = numbered (tablesOf chip) number has
+
+  -- of at most two digits
+  pub table-digits : number < 100
+  table-digits = omega (arith, table-number .1, sound-sheet chip .numbers)
+
+  -- a table is as long as its curve
+  pub table-sized : (length (tableOf chip number .settings) ≡ room (shapeOf chip number) .0)
+      × (length (tableOf chip number .speeds) ≡ room (shapeOf chip number) .1)
+  table-sized = sheet-sized (sheetOf chip) (sound-sheet chip) number has
+
+  -- its script is short, and so is its text
+  pub table-brief : (35 + 6 * (layoutOf chip number .selects + (layoutOf chip number .speeds + (layoutOf chip number .settings + layoutOf chip number .speeds)))
+      ≤ 10 * (4 + (layoutOf chip number .settings + layoutOf chip number .speeds)))
+      × (layoutOf chip number .selects + (layoutOf chip number .speeds + (layoutOf chip number .settings + layoutOf chip number .speeds)) ≤ 24)
+  table-brief =
+      let l = layoutOf chip number in
+      let writes = l .selects + (l .speeds + (l .settings + l .speeds)) in
+      let bytes = 10 * (4 + (l .settings + l .speeds)) in
+      let parts = both (leb (35 + 6 * writes) bytes) (leb writes 24) (sheet-brief (sheetOf chip) (sound-sheet chip) number has) in
+      (leb-true (35 + 6 * writes) bytes (parts .0), leb-true writes 24 (parts .1))
+
+  -- a chip's tables are laid out alike
+  pub table-laid : layoutOf chip number ≡ layoutOf chip 1
+  table-laid = sheet-laid (sheetOf chip) (sound-sheet chip) number has
+
+-- what the first table's layout says of every number that the chip has
+pub laid-first : (chip : Chip) (number : ℕ) → 1 ≤ number → number ≤ length (tablesOf chip)
+    → Laid (layoutOf chip 1) ≡ laidIn (sheetOf chip) number
+laid-first chip number h l =
+    let has : So (hasTable chip number) = rw (le-leb 1 number h, le-leb number (length (tablesOf chip)) l) in
+    ap Laid (sym (table-laid chip number has))
+    ∙ ap (λ (b : Bool). cond b (Laid (layoutOf chip number)) Nothing) (sym has)
+
+-- and what no table says
+pub none-laid : (chip : Chip) (number : ℕ) → (1 ≤ number → number ≤ length (tablesOf chip) → ⊥) → Nothing ≡ laidIn (sheetOf chip) number
+none-laid chip number h =
+    ap (λ (has : Bool). cond has (Laid (layoutOf chip number)) Nothing) (sym (no-number number (length (tablesOf chip)) h))

@@ -1,0 +1,14 @@
+pub mod Banks
+pub mod Rows
+pub mod Sheets
+pub mod Nct7802y
+pub mod F75373s
+pub mod Nct80
+pub mod Nct7904dBank0
+pub mod Nct7904dBank1
+pub mod Nct7904dBank2
+pub mod Nct7904dBank3
+pub mod Nct7904dBank4
+pub mod Nct7904d
+pub mod Cards
+pub mod Identity

@@ -1,0 +1,92 @@
+-- "Register cards": what a card's lines say of each of the 256 addresses.
+-- Assumes nothing.
+use Prim.Native.Nat.{ℕ, zero, suc}
+use mathlib.Core.Bool.{Bool, true, cond, _&&_}
+use mathlib.Core.List.{List, [], _∷_, _++_}
+use lib.Dec.{eqb}
+use lib.ListN.{getD}
+use Rattle.pages.specs.declared.Masks.{Masks}
+use Rattle.pages.specs.declared.Register.{Register}
+use Rattle.pages.specs.declared.Required.{Required}
+use Rattle.pages.specs.declared.Shape.{Shape}
+
+-- a test that holds of every entry
+abbrev pub every : {A : Type 0} → (A → Bool) → List A → Bool
+every test [] = true
+every test (a ∷ l) = test a && every test l
+
+-- a register of the sheet: its address, its writable bits, its bits that clear on one, its power-on value
+abbrev pub Line : Type 0
+Line = ℕ × ℕ × ℕ × ℕ
+
+-- a register that identity looks at: its position, the bits that count, and what these hold
+abbrev pub required : ℕ → ℕ → ℕ → Required
+required position bits value = record { position = position; bits = bits; value = value }
+
+-- the k-th of some, and no bit of any register behind the last
+abbrev pub requiredIn : List Required → ℕ → Required
+requiredIn identity k = getD identity k (required 0 0x00 0x00)
+
+-- where a chip holds temperatures: their width, the address of each sensor's high byte, the address of the low byte that the sensors share, which bits
+-- of it count, and what the lowest of these is worth there: 2 to the power 16 minus the width where they are left-aligned, 1 where right-aligned
+pub record Reading : Type 0 where
+  pub width : ℕ
+  pub high : List ℕ
+  pub low : ℕ
+  pub bits : ℕ
+  pub unit : ℕ
+
+-- what a card says of an address
+pub record Row : Type 0 where
+  pub writable : ℕ
+  pub clears : ℕ
+  pub power : ℕ
+
+abbrev pub row : ℕ → ℕ → ℕ → Row
+row writable clears power = record { writable = writable; clears = clears; power = power }
+
+-- what a write goes by
+abbrev pub masksIn : Row → Masks
+masksIn r = record { writable = r .writable; clears = r .clears }
+
+-- a fan table: where its settings stand (temperatures, and critical where there is one) and where its speeds stand, in register order, and what its
+-- curve is
+pub record Table : Type 0 where
+  pub settings : List ℕ
+  pub speeds : List ℕ
+  pub shape : Shape
+  -- the last setting, critical, leads in a record, where its register stands before the others
+  pub leading : Bool
+
+-- all registers of a table, in register order
+abbrev pub positions : Table → List ℕ
+positions table = table .settings ++ table .speeds
+
+-- "Addresses that a sheet doesn't list or reserves have both masks 00h and power-on 00h"
+abbrev pub rowIn : List Line → ℕ → Row
+rowIn [] address = row 0x00 0x00 0x00
+rowIn (l ∷ ls) address = cond (eqb (l .0) address) (row (l .1) (l .2) (l .3)) (rowIn ls address)
+
+-- a register of a fan table: where it stands, and what a write does there
+abbrev pub withMasks : Masks → ℕ → Register
+withMasks masks position = record { position = position; masks = masks }
+
+abbrev pub registerAt : List Line → ℕ → Register
+registerAt card position = withMasks (masksIn (rowIn card position)) position
+
+-- behind the last
+abbrev pub noRegister : Register
+noRegister = withMasks (masksIn (row 0x00 0x00 0x00)) 0
+
+-- a number for each of n addresses, from the first one on
+abbrev pub eachFrom : (ℕ → ℕ) → ℕ → ℕ → List ℕ
+eachFrom f first zero = []
+eachFrom f first (suc n) = f first ∷ eachFrom f (suc first) n
+
+-- n addresses in a row
+abbrev pub from : ℕ → ℕ → List ℕ
+from first n = eachFrom (λ address. address) first n
+
+-- a number for each of n positions, as "each of the 256 addresses"
+unfoldable pub column : ℕ → (ℕ → ℕ) → List ℕ
+column n f = eachFrom f 0 n
