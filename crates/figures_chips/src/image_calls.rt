@@ -1,4 +1,4 @@
-// Each call on an image, at known and unknown chip numbers and at lengths about 256. A lent buffer is filled with 5Ah beforehand, and a
+// Each call on an image, at known and unknown chip numbers and at lengths about 256 and 1,280. A lent buffer is filled with 5Ah beforehand, and a
 // refusal says whether it still is: `CALL chip C length L ..`.
 use figures_printing::FILL;
 use images::ByteRead;
@@ -22,26 +22,25 @@ fn after_refusal(r: Refusal, buffer: &[u8]) {
     figures_printing::kept(buffer);
 }
 
-// FFh to 91h, and what the register then holds.
-fn write(chip: u8, image: &mut [u8]) {
-    match images::write(chip, image, 0x91, 0xFF) {
-        Outcome::Refused(r) => after_refusal(r, image),
-        Outcome::Accepted => {
-            if 0x91 < image.len() {
-                figures_printing::text(b" 91 holds ");
-                figures_printing::byte(image[0x91]);
-            }
+fn read_as(label: &[u8], chip: u8, image: &[u8], address: u8) {
+    match images::read(chip, image, address) {
+        ByteRead::Refused(r) => after_refusal(r, image),
+        ByteRead::Byte(b) => {
+            figures_printing::text(label);
+            figures_printing::byte(b);
         }
     }
 }
 
-fn read(chip: u8, image: &[u8], address: u8) {
-    match images::read(chip, image, address) {
-        ByteRead::Refused(r) => after_refusal(r, image),
-        ByteRead::Byte(b) => {
-            figures_printing::text(b" byte ");
-            figures_printing::byte(b);
-        }
+pub fn read(chip: u8, image: &[u8], address: u8) {
+    read_as(b" byte ", chip, image, address);
+}
+
+// FFh to 91h, and what the register then holds.
+fn write(chip: u8, image: &mut [u8]) {
+    match images::write(chip, image, 0x91, 0xFF) {
+        Outcome::Refused(r) => after_refusal(r, image),
+        Outcome::Accepted => read_as(b" 91 holds ", chip, image, 0x91),
     }
 }
 
@@ -52,7 +51,7 @@ fn reset(chip: u8, image: &mut [u8]) {
     }
 }
 
-fn identity(chip: u8, image: &[u8]) {
+pub fn identity(chip: u8, image: &[u8]) {
     match identities::confirm(chip, image) {
         Outcome::Refused(r) => after_refusal(r, image),
         Outcome::Accepted => figures_printing::text(b" confirmed"),
@@ -84,7 +83,7 @@ fn answer_to_part(call: u8, chip: u8, buffer: &mut [u8], length: usize) {
 }
 
 fn line(call: u8, chip: u8, length: usize) {
-    let mut buffer = [FILL; 257];
+    let mut buffer = [FILL; 1281];
     name(call);
     figures_printing::labelled(b" chip ", chip as u64);
     figures_printing::labelled(b" length ", length as u64);
@@ -97,6 +96,9 @@ fn lengths(call: u8, chip: u8) {
     line(call, chip, 255);
     line(call, chip, 256);
     line(call, chip, 257);
+    line(call, chip, 1279);
+    line(call, chip, 1280);
+    line(call, chip, 1281);
 }
 
 fn chips(call: u8) {
@@ -105,6 +107,7 @@ fn chips(call: u8) {
     lengths(call, 2);
     lengths(call, 3);
     lengths(call, 4);
+    lengths(call, 5);
     lengths(call, 255);
 }
 
@@ -115,20 +118,30 @@ pub fn print_all() {
     chips(3);
 }
 
-// A byte written to a register that holds 5Ah, and what it then holds.
-fn stored(chip: u8, address: u8, byte: u8) {
-    let mut image = [FILL; 256];
-    images::write(chip, &mut image, address, byte);
+fn stored_in(image: &mut [u8], chip: u8, address: u8, byte: u8) {
+    images::write(chip, image, address, byte);
     figures_printing::labelled(b"stored chip ", chip as u64);
     figures_printing::space();
     figures_printing::byte(address);
     figures_printing::text(b" write ");
     figures_printing::byte(byte);
-    read(chip, &image, address);
+    read(chip, image, address);
     figures_printing::line_end();
 }
 
-// Bits 0 and 1 of 34h of chip 2 clear on one, 54h of chip 1 has six writable bits, 3Eh of chip 3 none.
+// A byte written to a register that holds 5Ah, and what it then holds.
+fn stored(chip: u8, address: u8, byte: u8) {
+    let mut image = [FILL; 256];
+    stored_in(&mut image, chip, address, byte);
+}
+
+fn stored_in_bank_2(address: u8, byte: u8) {
+    let mut image = [FILL; 1280];
+    stored_in(&mut image, 4, address, byte);
+}
+
+// Bits 0 and 1 of 34h of chip 2 clear on one, 54h of chip 1 has six writable bits, 3Eh of chip 3 none. 5Ah selects bank 2 of chip 4, whose 00h has
+// four writable bits; FFh has three and 7Ah none.
 pub fn print_stored() {
     stored(2, 0x34, 0x00);
     stored(2, 0x34, 0x01);
@@ -138,60 +151,10 @@ pub fn print_stored() {
     stored(1, 0x54, 0xFF);
     stored(3, 0x3E, 0x00);
     stored(3, 0x3E, 0xFF);
-}
-
-// 1 where the image is not confirmed.
-fn undone(chip: u8, image: &[u8]) -> u64 {
-    match identities::confirm(chip, image) {
-        Outcome::Accepted => 0,
-        Outcome::Refused(_) => 1,
-    }
-}
-
-fn turn(image: &mut [u8], at: usize, bit: u8) {
-    if at < image.len() {
-        image[at] = image[at] ^ (1u8 << (bit % 8));
-    }
-}
-
-// How many bits of a register, each turned over by itself, undo the identity.
-fn bits_seen(chip: u8, image: &mut [u8], at: usize) -> u64 {
-    let mut seen: u64 = 0;
-    for bit in 0..8u8 {
-        turn(image, at, bit);
-        seen = std::num::wrapping_add_u64(seen, undone(chip, image));
-        turn(image, at, bit);
-    }
-    seen
-}
-
-// The identity of the chip's own power-on image.
-fn identity_at_power_on(chip: u8, image: &mut [u8]) {
-    images::reset(chip, image);
-    figures_printing::labelled(b"identity chip ", chip as u64);
-    figures_printing::text(b" power-on");
-    identity(chip, image);
-}
-
-// And how many of its 2,048 bits identity sees.
-pub fn print_identity_bits(chip: u8) {
-    let mut image = [0u8; 256];
-    identity_at_power_on(chip, &mut image);
-    figures_printing::labelled(b" bits ", all_bits_seen(chip, &mut image));
-    figures_printing::line_end();
-}
-
-// Chip 3 has no identity rule: its own image, manufacturer byte and all, is refused.
-pub fn print_no_identity() {
-    let mut image = [0u8; 256];
-    identity_at_power_on(3, &mut image);
-    figures_printing::line_end();
-}
-
-fn all_bits_seen(chip: u8, image: &mut [u8]) -> u64 {
-    let mut seen: u64 = 0;
-    for at in 0..256 {
-        seen = std::num::wrapping_add_u64(seen, bits_seen(chip, image, at));
-    }
-    seen
+    stored_in_bank_2(0x00, 0x00);
+    stored_in_bank_2(0x00, 0xFF);
+    stored_in_bank_2(0x7A, 0x00);
+    stored_in_bank_2(0x7A, 0xFF);
+    stored_in_bank_2(0xFF, 0x00);
+    stored_in_bank_2(0xFF, 0xFF);
 }

@@ -1,4 +1,6 @@
 // Prints the rows of the cards, and what the calls on an image answer.
+mod banks;
+mod identity_bits;
 mod image_calls;
 mod rows;
 
@@ -6,7 +8,6 @@ fn main() {
     rows::print_all();
     image_calls::print_all();
     image_calls::print_stored();
-    image_calls::print_identity_bits(1);
-    image_calls::print_identity_bits(2);
-    image_calls::print_no_identity();
+    banks::print_all();
+    identity_bits::print_all();
 }

@@ -1,19 +1,28 @@
-// Every row of every card: `row C AA WW CC PP`.
+// Every row of every card: `row C AA WW CC PP`, with three digits of the position where an image has more than one bank.
 use pages::Chip;
 use pages::Named;
+
+fn place(size: usize, position: usize) {
+    figures_printing::space();
+    if size > 256 {
+        figures_printing::position(position);
+    } else {
+        figures_printing::byte((position % 256) as u8);
+    }
+}
 
 fn column(b: u8) {
     figures_printing::space();
     figures_printing::byte(b);
 }
 
-fn row(number: u8, chip: Chip, address: u8) {
-    let masks = cards::masks_of(chip, address as usize);
+fn row(number: u8, chip: Chip, size: usize, position: usize) {
+    let masks = cards::masks_of(chip, position);
     figures_printing::labelled(b"row ", number as u64);
-    column(address);
+    place(size, position);
     column(masks.writable);
     column(masks.clears);
-    column(cards::power_on_of(chip, address as usize));
+    column(cards::power_on_of(chip, position));
     figures_printing::line_end();
 }
 
@@ -21,8 +30,10 @@ fn card(number: u8) {
     let Named::Known(chip) = cards::chip_of(number) else {
         return;
     };
-    for address in 0..=255u8 {
-        row(number, chip, address);
+    let sizes = cards::sizes_of(chip);
+    let size = sizes.image;
+    for position in 0..size {
+        row(number, chip, size, position);
     }
 }
 
@@ -30,4 +41,5 @@ pub fn print_all() {
     card(1);
     card(2);
     card(3);
+    card(4);
 }

@@ -79,6 +79,39 @@ pub fn word(w: u16) {
     byte((w % 256) as u8);
 }
 
+// A position of an image in three upper-case hexadecimal digits.
+pub fn position(at: usize) {
+    let digits = [
+        digit((at / 256 % 16) as u8),
+        digit((at / 16 % 16) as u8),
+        digit((at % 16) as u8),
+    ];
+    text(&digits);
+}
+
+// A byte of an image behind its position.
+pub fn placed(at: usize, b: u8) {
+    space();
+    position(at);
+    space();
+    byte(b);
+}
+
+fn change(at: usize, old: u8, new: u8) {
+    if old != new {
+        placed(at, new);
+    }
+}
+
+// Each position whose byte has changed, and its byte now.
+pub fn changes(old: &[u8], new: &[u8]) {
+    for at in 0..old.len() {
+        if at < new.len() {
+            change(at, old[at], new[at]);
+        }
+    }
+}
+
 pub fn refused(r: Refusal) {
     labelled(b" refused ", refusal::number(r) as u64);
 }

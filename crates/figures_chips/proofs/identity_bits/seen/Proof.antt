@@ -1,17 +1,17 @@
--- `image_calls::bits_seen` is safe and ends: the loop counts up to 8.
+-- `identity_bits::seen` is safe and ends: the loop counts up to 8.
 -- Assumes nothing.
 use borrow.Author.Needs.{needs}
 use Prim.Native.Nat.{_≤_, _-_}
 use lib.ListN.{length}
 use mathlib.Core.Path.{_≡_}
-use Rattle.figures_chips.proofs.image_calls.bits_seen.Statement.{statement}
-use Rattle.figures_chips.proofs.image_calls.bits_seen.Tie as tie
+use Rattle.figures_chips.proofs.identity_bits.seen.Statement.{statement}
+use Rattle.figures_chips.proofs.identity_bits.seen.Tie as tie
 
 abbrev Inv-loop : tie.InvT-loop
-Inv-loop chip image₀ at seen₀ bit₀ image seen bit = (bit ≤ 8) × (length image ≡ length image₀)
+Inv-loop chip image₀ at bits₀ bit₀ image bits bit = (bit ≤ 8) × (length image ≡ length image₀)
 
 abbrev μ-loop : tie.MeasureT-loop
-μ-loop chip image₀ at seen₀ bit₀ image seen bit = 8 - bit
+μ-loop chip image₀ at bits₀ bit₀ image bits bit = 8 - bit
 
 loop-holds : tie.Need-loop-holds Inv-loop μ-loop
 loop-holds c = search needs
@@ -21,9 +21,6 @@ turn-requires c κs = search needs
 
 undone-requires : tie.Need-undone-requires Inv-loop μ-loop
 undone-requires c κs = search needs
-
-wrapping-add-u64-requires : tie.Need-wrapping-add-u64-requires Inv-loop μ-loop
-wrapping-add-u64-requires c κs = search needs
 
 turn-requires-2 : tie.Need-turn-requires-2 Inv-loop μ-loop
 turn-requires-2 c κs = search needs
@@ -43,8 +40,8 @@ same-length c = search needs
 returns : tie.Need-returns Inv-loop μ-loop
 returns c = search needs
 
-pub bits-seen-spec : {M : Type 1} → statement M
-bits-seen-spec =
+pub seen-spec : {M : Type 1} → statement M
+seen-spec =
     tie.close
     (tie.spec
     Inv-loop
@@ -52,7 +49,6 @@ bits-seen-spec =
     loop-holds
     turn-requires
     undone-requires
-    wrapping-add-u64-requires
     turn-requires-2
     add-bit
     loop-less
