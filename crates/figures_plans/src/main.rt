@@ -1,5 +1,7 @@
 // Prints what curves ask, of plans and of images: `.. at T is S`. proofs/ has the starred figures, of readings, the watch and
 // curves, and where those layers agree.
+mod banked_tables;
+
 use curves::Plan;
 use plans::Asked;
 
@@ -19,6 +21,11 @@ fn paper_at(t: u8) {
 fn steps_at(t: u8) {
     figures_printing::text(b"steps count");
     end(2, t, plans::asked_of_plan(figures_samples::stepped(), t));
+}
+
+fn banked_at(t: u8) {
+    figures_printing::text(b"banked duty");
+    end(4, t, plans::asked_of_plan(figures_samples::banked(10), t));
 }
 
 fn plan_at(plan: Plan, t: u8) {
@@ -52,6 +59,7 @@ fn figures() {
 fn whole_curve() {
     for k in 0..=255u8 {
         paper_at(k ^ 0x80);
+        banked_at(k ^ 0x80);
     }
 }
 
@@ -75,12 +83,12 @@ fn all_steps() {
 
 // A plan is asked in order or not: only its chip and its table are checked.
 fn unordered() {
-    for k in 0..14u8 {
+    for k in 0..20u8 {
         plan_at(figures_samples::refused(k), 45);
     }
 }
 
-fn temperature(k: u8) -> u8 {
+pub fn temperature(k: u8) -> u8 {
     match k {
         0 => 0x80,
         1 => 0xFF,
@@ -94,6 +102,7 @@ fn temperature(k: u8) -> u8 {
         9 => 59,
         10 => 60,
         11 => 61,
+        12 => 90,
         _ => 0x7F,
     }
 }
@@ -105,19 +114,32 @@ fn image_at(chip: u8, table: u8, image: &[u8], t: u8) {
     end(chip, t, plans::asked_of_image(chip, table, image, t));
 }
 
-fn power_on(chip: u8, table: u8) {
-    let mut image = [0u8; 256];
-    images::reset(chip, &mut image);
-    for k in 0..13u8 {
-        image_at(chip, table, &image, temperature(k));
+fn asked_of(chip: u8, table: u8, image: &[u8]) {
+    for k in 0..14u8 {
+        image_at(chip, table, image, temperature(k));
     }
 }
 
-// Of bytes that are all 5Ah, one too few for an image, as many as it has, and one too many.
+fn power_on(chip: u8, table: u8) {
+    let mut image = [0u8; 256];
+    images::reset(chip, &mut image);
+    asked_of(chip, table, &image);
+}
+
+fn power_on_banked(table: u8) {
+    let mut image = [0u8; 1280];
+    images::reset(4, &mut image);
+    asked_of(4, table, &image);
+}
+
+// Of bytes that are all 5Ah, one too few for an image, as many as one has, and one too many.
 fn lengths(chip: u8, table: u8) {
     image_at(chip, table, &[figures_printing::FILL; 255], 91);
     image_at(chip, table, &[figures_printing::FILL; 256], 91);
     image_at(chip, table, &[figures_printing::FILL; 257], 91);
+    image_at(chip, table, &[figures_printing::FILL; 1279], 91);
+    image_at(chip, table, &[figures_printing::FILL; 1280], 91);
+    image_at(chip, table, &[figures_printing::FILL; 1281], 91);
 }
 
 fn tables(chip: u8) {
@@ -126,6 +148,14 @@ fn tables(chip: u8) {
     lengths(chip, 2);
     lengths(chip, 3);
     lengths(chip, 4);
+    lengths(chip, 10);
+    lengths(chip, 11);
+}
+
+fn banked_power_on() {
+    for table in 1..11u8 {
+        power_on_banked(table);
+    }
 }
 
 fn main() {
@@ -138,10 +168,13 @@ fn main() {
     power_on(1, 3);
     power_on(2, 1);
     power_on(2, 2);
+    banked_power_on();
+    banked_tables::print_all();
     tables(0);
     tables(1);
     tables(2);
     tables(3);
     tables(4);
+    tables(5);
     tables(255);
 }

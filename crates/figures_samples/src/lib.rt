@@ -6,9 +6,9 @@ use curves::SlopeValues;
 use curves::StepValues;
 use plans::Asked;
 ghost use mathlib.Core.Path.{_≡_};
-ghost use Rattle.figures_samples.specs.Samples.{sloped, stepped as Samples·stepped, paperFor, allDifferent, refusedAt};
+ghost use Rattle.figures_samples.specs.Samples.{sloped, stepped as Samples·stepped, paperFor, allDifferent, bankedFor, refusedAt};
 
-// A plan with chip 1's values; another chip number may stand on it.
+// A plan with values as chips 1 and 4 have them; another chip number may stand on it.
 pub fn slope(chip: u8, table: u8, temperatures: [u8; 4], critical: u8, duties: [u8; 4]) -> Plan
     ensures { λ r. ⌜ r ≡ sloped chip table temperatures critical duties ⌝ }
 {
@@ -54,24 +54,37 @@ pub fn stepped() -> Plan
     )
 }
 
+// A plan of chip 4 with a temperature below zero and critical above all others: the second of the request's, which is for table 10.
+pub fn banked(table: u8) -> Plan
+    ensures { λ r. ⌜ r ≡ bankedFor table ⌝ }
+{
+    slope(4, table, [0xEC, 0, 20, 50], 127, [0, 64, 128, 255])
+}
+
 // Plans that a check refuses, and several that two or more would: then the first is the answer.
 pub fn refused(k: u8) -> Plan
     ensures { λ r. ⌜ r ≡ refusedAt k ⌝ }
 {
     match k {
         0 => paper(0, 3),
-        1 => slope(4, 9, [40, 30, 50, 55], 60, [140, 170, 200, 199]),
+        1 => slope(5, 11, [40, 30, 50, 55], 60, [140, 170, 200, 199]),
         2 => paper(1, 0),
         3 => paper(1, 4),
         4 => slope(1, 4, [40, 30, 50, 55], 60, [140, 170, 200, 199]),
         5 => steps(3, [60, 50, 40, 30], [0, 1, 2, 3, 4]),
         6 => paper(3, 1),
-        7 => slope(1, 1, [30, 40, 40, 55], 60, [140, 170, 200, 230]),
-        8 => slope(1, 2, [30, 40, 50, 55], 54, [140, 170, 200, 230]),
-        9 => slope(1, 3, [30, 0x80, 50, 55], 60, [140, 139, 200, 230]),
-        10 => steps(1, [60, 50, 50, 30], [0, 1, 2, 3, 4]),
-        11 => steps(2, [60, 50, 40, 41], [0, 0x0200, 0x01FF, 3, 4]),
-        12 => slope(1, 3, [30, 40, 50, 55], 60, [140, 170, 200, 199]),
+        7 => paper(4, 0),
+        8 => slope(4, 11, [40, 30, 50, 55], 60, [140, 170, 200, 199]),
+        9 => slope(1, 1, [30, 40, 40, 55], 60, [140, 170, 200, 230]),
+        10 => slope(1, 2, [30, 40, 50, 55], 54, [140, 170, 200, 230]),
+        11 => slope(1, 3, [30, 0x80, 50, 55], 60, [140, 139, 200, 230]),
+        12 => steps(1, [60, 50, 50, 30], [0, 1, 2, 3, 4]),
+        13 => steps(2, [60, 50, 40, 41], [0, 0x0200, 0x01FF, 3, 4]),
+        14 => slope(4, 4, [30, 40, 40, 55], 60, [140, 170, 200, 230]),
+        15 => slope(4, 5, [30, 40, 50, 55], 54, [140, 170, 200, 230]),
+        16 => slope(4, 10, [30, 0x80, 50, 55], 60, [140, 139, 200, 230]),
+        17 => slope(1, 3, [30, 40, 50, 55], 60, [140, 170, 200, 199]),
+        18 => slope(4, 10, [30, 40, 50, 55], 60, [140, 170, 200, 199]),
         _ => steps(2, [60, 50, 40, 30], [0, 0x0200, 0x01FF, 0x0300, 0xFFFF]),
     }
 }
@@ -107,9 +120,16 @@ pub fn show(plan: Plan) {
     count(counts[4]);
 }
 
-// A temperature is signed for chip 1.
+fn has_duties(chip: u8) -> bool {
+    match chip {
+        1 | 4 => true,
+        _ => false,
+    }
+}
+
+// A temperature is signed for chips 1 and 4.
 pub fn degrees(chip: u8, t: u8) {
-    if chip == 1 {
+    if has_duties(chip) {
         if t >= 128 {
             figures_printing::labelled(b"-", 256 - t as u64);
             return;
@@ -118,13 +138,13 @@ pub fn degrees(chip: u8, t: u8) {
     figures_printing::decimal(t as u64);
 }
 
-// A duty of chip 1 in decimal, a count in hexadecimal.
+// A duty in decimal, a count in hexadecimal.
 pub fn speed(chip: u8, asked: Asked) {
     match asked {
         Asked::Refused(r) => figures_printing::refused(r),
         Asked::Speed(s) => {
             figures_printing::space();
-            if chip == 1 {
+            if has_duties(chip) {
                 figures_printing::decimal(s as u64);
             } else {
                 figures_printing::word(s);

@@ -17,6 +17,9 @@ loop-holds c = search needs
 paper-at-requires : tie.Need-paper-at-requires Inv-loop μ-loop
 paper-at-requires c κs = search needs
 
+banked-at-requires : tie.Need-banked-at-requires Inv-loop μ-loop
+banked-at-requires c κs = search needs
+
 add-k : tie.Need-add-k Inv-loop μ-loop
 add-k c = search needs
 
@@ -40,6 +43,7 @@ whole-curve-spec =
     μ-loop
     loop-holds
     paper-at-requires
+    banked-at-requires
     add-k
     loop-less
     loop-again

@@ -39,6 +39,9 @@ steps-requires c κs = search needs
 paper-requires-4 : tie.Need-paper-requires-4
 paper-requires-4 c κs = search needs
 
+paper-requires-5 : tie.Need-paper-requires-5
+paper-requires-5 c κs = search needs
+
 slope-requires-3 : tie.Need-slope-requires-3
 slope-requires-3 c κs = search needs
 
@@ -48,14 +51,29 @@ slope-requires-4 c κs = search needs
 slope-requires-5 : tie.Need-slope-requires-5
 slope-requires-5 c κs = search needs
 
+slope-requires-6 : tie.Need-slope-requires-6
+slope-requires-6 c κs = search needs
+
 steps-requires-2 : tie.Need-steps-requires-2
 steps-requires-2 c κs = search needs
 
 steps-requires-3 : tie.Need-steps-requires-3
 steps-requires-3 c κs = search needs
 
-slope-requires-6 : tie.Need-slope-requires-6
-slope-requires-6 c κs = search needs
+slope-requires-7 : tie.Need-slope-requires-7
+slope-requires-7 c κs = search needs
+
+slope-requires-8 : tie.Need-slope-requires-8
+slope-requires-8 c κs = search needs
+
+slope-requires-9 : tie.Need-slope-requires-9
+slope-requires-9 c κs = search needs
+
+slope-requires-10 : tie.Need-slope-requires-10
+slope-requires-10 c κs = search needs
+
+slope-requires-11 : tie.Need-slope-requires-11
+slope-requires-11 c κs = search needs
 
 steps-requires-4 : tie.Need-steps-requires-4
 steps-requires-4 c κs = search needs
@@ -82,27 +100,45 @@ returns-7 : tie.Need-returns-7
 returns-7 c = c .paper4 .ensures ∙ sym (ap refusedAt (c .before .match .keys7))
 
 returns-8 : tie.Need-returns-8
-returns-8 c = c .slope3 .ensures ∙ sym (ap refusedAt (c .before .match .keys8))
+returns-8 c = c .paper5 .ensures ∙ sym (ap refusedAt (c .before .match .keys8))
 
 returns-9 : tie.Need-returns-9
-returns-9 c = c .slope4 .ensures ∙ sym (ap refusedAt (c .before .match .keys9))
+returns-9 c = c .slope3 .ensures ∙ sym (ap refusedAt (c .before .match .keys9))
 
 returns-10 : tie.Need-returns-10
-returns-10 c = c .slope5 .ensures ∙ sym (ap refusedAt (c .before .match .keys10))
+returns-10 c = c .slope4 .ensures ∙ sym (ap refusedAt (c .before .match .keys10))
 
 returns-11 : tie.Need-returns-11
-returns-11 c = c .steps2 .ensures ∙ sym (ap refusedAt (c .before .match .keys11))
+returns-11 c = c .slope5 .ensures ∙ sym (ap refusedAt (c .before .match .keys11))
 
 returns-12 : tie.Need-returns-12
-returns-12 c = c .steps3 .ensures ∙ sym (ap refusedAt (c .before .match .keys12))
+returns-12 c = c .slope6 .ensures ∙ sym (ap refusedAt (c .before .match .keys12))
 
 returns-13 : tie.Need-returns-13
-returns-13 c = c .slope6 .ensures ∙ sym (ap refusedAt (c .before .match .keys13))
+returns-13 c = c .steps2 .ensures ∙ sym (ap refusedAt (c .before .match .keys13))
 
 returns-14 : tie.Need-returns-14
-returns-14 c =
+returns-14 c = c .steps3 .ensures ∙ sym (ap refusedAt (c .before .match .keys14))
+
+returns-15 : tie.Need-returns-15
+returns-15 c = c .slope7 .ensures ∙ sym (ap refusedAt (c .before .match .keys15))
+
+returns-16 : tie.Need-returns-16
+returns-16 c = c .slope8 .ensures ∙ sym (ap refusedAt (c .before .match .keys16))
+
+returns-17 : tie.Need-returns-17
+returns-17 c = c .slope9 .ensures ∙ sym (ap refusedAt (c .before .match .keys17))
+
+returns-18 : tie.Need-returns-18
+returns-18 c = c .slope10 .ensures ∙ sym (ap refusedAt (c .before .match .keys18))
+
+returns-19 : tie.Need-returns-19
+returns-19 c = c .slope11 .ensures ∙ sym (ap refusedAt (c .before .match .keys19))
+
+returns-20 : tie.Need-returns-20
+returns-20 c =
     let k = c .before .before .args .k in
-    c .steps4 .ensures ∙ sym (List·getD-eq-default refusedOnes _ {n = k} (past 13 k (c .before .match .rest)))
+    c .steps4 .ensures ∙ sym (List·getD-eq-default refusedOnes _ {n = k} (past 19 k (c .before .match .rest)))
 
 pub refused-spec : {M : Type 1} → statement M
 refused-spec =
@@ -115,12 +151,18 @@ refused-spec =
     slope-requires-2
     steps-requires
     paper-requires-4
+    paper-requires-5
     slope-requires-3
     slope-requires-4
     slope-requires-5
+    slope-requires-6
     steps-requires-2
     steps-requires-3
-    slope-requires-6
+    slope-requires-7
+    slope-requires-8
+    slope-requires-9
+    slope-requires-10
+    slope-requires-11
     steps-requires-4
     returns
     returns-2
@@ -135,4 +177,10 @@ refused-spec =
     returns-11
     returns-12
     returns-13
-    returns-14)
+    returns-14
+    returns-15
+    returns-16
+    returns-17
+    returns-18
+    returns-19
+    returns-20)

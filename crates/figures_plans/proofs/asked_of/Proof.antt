@@ -1,27 +1,18 @@
--- `power_on` is safe and ends: the loop counts up to 13.
+-- `asked_of` is safe and ends: the loop counts up to 14.
 -- Assumes what libc promises of `write`: that it moves no more bytes than its buffer has.
 use borrow.Author.Needs.{needs}
 use Prim.Native.Nat.{_≤_, _-_}
-use Rattle.figures_plans.proofs.power_on.Statement.{statement}
-use Rattle.figures_plans.proofs.power_on.Tie as tie
+use Rattle.figures_plans.proofs.asked_of.Statement.{statement}
+use Rattle.figures_plans.proofs.asked_of.Tie as tie
 
 abbrev Inv-loop : tie.InvT-loop
-Inv-loop chip table image k₀ k = k ≤ 13
+Inv-loop chip table image k₀ k = k ≤ 14
 
 abbrev μ-loop : tie.MeasureT-loop
-μ-loop chip table image k₀ k = 13 - k
-
-slice-aggregate-reset : tie.Need-slice-aggregate-reset Inv-loop μ-loop
-slice-aggregate-reset c = search needs
-
-reset-requires : tie.Need-reset-requires Inv-loop μ-loop
-reset-requires c κs = search needs
+μ-loop chip table image k₀ k = 14 - k
 
 loop-holds : tie.Need-loop-holds Inv-loop μ-loop
 loop-holds c = search needs
-
-slice-aggregate-image-at : tie.Need-slice-aggregate-image-at Inv-loop μ-loop
-slice-aggregate-image-at c = search needs
 
 temperature-requires : tie.Need-temperature-requires Inv-loop μ-loop
 temperature-requires c κs = search needs
@@ -41,16 +32,13 @@ loop-again c = search needs
 returns : tie.Need-returns Inv-loop μ-loop
 returns c = search needs
 
-pub power-on-spec : {M : Type 1} → statement M
-power-on-spec =
+pub asked-of-spec : {M : Type 1} → statement M
+asked-of-spec =
     tie.close
     (tie.spec
     Inv-loop
     μ-loop
-    slice-aggregate-reset
-    reset-requires
     loop-holds
-    slice-aggregate-image-at
     temperature-requires
     image-at-requires
     add-k
