@@ -1,9 +1,9 @@
 """Plan records, read and written."""
 from cards import NAMES
-from plans import PAPER, REFUSED, STEPPED, TABLES, Plan, body, decoded, pairs, refusal, show
+from plans import FIRST_OF_4, PAPER, REFUSED, STEPPED, TABLES, Plan, banked, body, decoded, pairs, refusal, show
 
 MARK = [0x43, 0x50]
-LENGTHS = {1: 13, 2: 18}
+LENGTHS = {1: 13, 2: 18, 4: 13}
 NOTHING = Plan(0, 0, (0,) * 9)
 
 
@@ -56,11 +56,19 @@ def bytes_of(text):
 BODY = "1E2832373C8CAAC8E6"
 STEPS = "3C32281E0102030405060708090A"
 
+# Of the request's two records of chip 4: critical, T1 to T4, P1 to P4.
+BODY_4 = "5A19232D378CAAC8E6"
+COLD_4 = "7FEC001432004080FF"
+assert bytes_of("43500401" + BODY_4) == record(FIRST_OF_4) and bytes_of("4350040A" + COLD_4) == record(banked(10))
+
 GOOD = (
     ("43500103" + BODY, 13),
     ("4350010180FF007F7F0000FFFF" + "0102", 20),
     ("43500201" + STEPS, 18),
     ("43500202FF807F00000000000001FFFFFFFF" + "4350", 20),
+    ("43500401" + BODY_4, 13),
+    ("4350040A" + COLD_4, 13),
+    ("435004057F80FF007F0000FFFF" + "0102", 20),
 )
 
 # Each with the number of its refusal.
@@ -70,27 +78,38 @@ BAD = (
     (1, "58595A"),
     (2, "44500103" + BODY),
     (2, "43510103" + BODY),
-    (2, "50430403" + BODY),
+    (2, "50430503" + BODY),
     (3, "43500003" + BODY),
-    (3, "43500401" + BODY),
-    (3, "4350FF09"),
+    (3, "43500501" + BODY_4),
+    (3, "4350FF0B"),
     (4, "43500100" + BODY),
     (4, "43500104" + BODY),
     (4, "43500203" + STEPS),
     (4, "43500301" + BODY),
     (4, "43500104" + BODY[:-2]),
     (4, "43500301"),
+    (4, "43500400" + BODY_4),
+    (4, "4350040B" + BODY_4),
+    (4, "435004FF"),
     (5, "43500103"),
     (5, "43500103" + BODY[:-2]),
     (5, "43500201" + STEPS[:-2]),
     (5, "43500103" + "281E32373C8CAAC8"),
+    (5, "43500401"),
+    (5, "43500401" + BODY_4[:-2]),
+    (5, "4350040A" + "5A23192D378CAAC8"),
     (6, "43500103" + "1E2828373C8CAAC8E6"),
     (6, "43500103" + "1E283237368CAAC8E6"),
     (6, "43500103" + "1E2832803C8CAAC8E6"),
     (6, "43500201" + "3C32321E0102030405060708090A"),
     (6, "43500103" + "281E32373C8CAAC8C7"),
+    (6, "43500401" + "1E2832373C8CAAC8E6"),
+    (6, "43500401" + "5A19232D238CAAC8E6"),
+    (6, "43500402" + "3619232D378CAAC8E6"),
+    (6, "43500409" + "FF19232D378CAAC8C7"),
     (7, "43500103" + "1E2832373C8CAAC8C7"),
     (7, "43500201" + "3C32281E0102030402FF0708090A"),
+    (7, "4350040A" + "5A19232D378CAAC8C7"),
 )
 
 
@@ -106,6 +125,9 @@ def records():
         write(PAPER, room)
     for room in (17, 18, 20):
         write(STEPPED, room)
+    for room in (12, 13, 14):
+        write(banked(10), room)
     slope, steps = (1, 2, 3, 4, 4, 5, 6, 7, 7), (9, 8, 7, 6, 1, 2, 3, 3, 0xFFFF)
     write(Plan(1, 2, slope, steps), 20)
     write(Plan(2, 2, steps, slope), 20)
+    write(Plan(4, 2, slope, steps), 20)

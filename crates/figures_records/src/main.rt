@@ -37,7 +37,8 @@ fn write(plan: Plan, room: usize) {
     figures_printing::line_end();
 }
 
-// With all bytes there, with a tail, and written back; chip 1's temperatures from -128 to 127 are in order.
+// With all bytes there, with a tail, and written back; temperatures from -128 to 127 are in order. The request's two records of chip 4, whose critical
+// comes first.
 fn good() {
     write(read(b"CP\x01\x03\x1E\x28\x32\x37\x3C\x8C\xAA\xC8\xE6"), 13);
     write(
@@ -50,6 +51,12 @@ fn good() {
     );
     write(
         read(b"CP\x02\x02\xFF\x80\x7F\x00\x00\x00\x00\x00\x00\x01\xFF\xFF\xFF\xFFCP"),
+        20,
+    );
+    write(read(b"CP\x04\x01\x5A\x19\x23\x2D\x37\x8C\xAA\xC8\xE6"), 13);
+    write(read(b"CP\x04\x0A\x7F\xEC\x00\x14\x32\x00\x40\x80\xFF"), 13);
+    write(
+        read(b"CP\x04\x05\x7F\x80\xFF\x00\x7F\x00\x00\xFF\xFF\x01\x02"),
         20,
     );
 }
@@ -65,14 +72,14 @@ fn header_cut_short() {
 fn wrong_mark() {
     read(b"DP\x01\x03\x1E\x28\x32\x37\x3C\x8C\xAA\xC8\xE6");
     read(b"CQ\x01\x03\x1E\x28\x32\x37\x3C\x8C\xAA\xC8\xE6");
-    read(b"PC\x04\x03\x1E\x28\x32\x37\x3C\x8C\xAA\xC8\xE6");
+    read(b"PC\x05\x03\x1E\x28\x32\x37\x3C\x8C\xAA\xC8\xE6");
 }
 
 // 3, and 3 before 4.
 fn no_such_chip() {
     read(b"CP\x00\x03\x1E\x28\x32\x37\x3C\x8C\xAA\xC8\xE6");
-    read(b"CP\x04\x01\x1E\x28\x32\x37\x3C\x8C\xAA\xC8\xE6");
-    read(b"CP\xFF\x09");
+    read(b"CP\x05\x01\x5A\x19\x23\x2D\x37\x8C\xAA\xC8\xE6");
+    read(b"CP\xFF\x0B");
 }
 
 // 4, and 4 before 5.
@@ -83,6 +90,9 @@ fn no_such_table() {
     read(b"CP\x03\x01\x1E\x28\x32\x37\x3C\x8C\xAA\xC8\xE6");
     read(b"CP\x01\x04\x1E\x28\x32\x37\x3C\x8C\xAA\xC8");
     read(b"CP\x03\x01");
+    read(b"CP\x04\x00\x5A\x19\x23\x2D\x37\x8C\xAA\xC8\xE6");
+    read(b"CP\x04\x0B\x5A\x19\x23\x2D\x37\x8C\xAA\xC8\xE6");
+    read(b"CP\x04\xFF");
 }
 
 // 5, and 5 before 6.
@@ -91,26 +101,34 @@ fn body_cut_short() {
     read(b"CP\x01\x03\x1E\x28\x32\x37\x3C\x8C\xAA\xC8");
     read(b"CP\x02\x01\x3C\x32\x28\x1E\x01\x02\x03\x04\x05\x06\x07\x08\x09");
     read(b"CP\x01\x03\x28\x1E\x32\x37\x3C\x8C\xAA\xC8");
+    read(b"CP\x04\x01");
+    read(b"CP\x04\x01\x5A\x19\x23\x2D\x37\x8C\xAA\xC8");
+    read(b"CP\x04\x0A\x5A\x23\x19\x2D\x37\x8C\xAA\xC8");
 }
 
-// 6, and 6 before 7.
+// 6, and 6 before 7. In chip 1's order a body is none of chip 4's.
 fn temperatures_out_of_order() {
     read(b"CP\x01\x03\x1E\x28\x28\x37\x3C\x8C\xAA\xC8\xE6");
     read(b"CP\x01\x03\x1E\x28\x32\x37\x36\x8C\xAA\xC8\xE6");
     read(b"CP\x01\x03\x1E\x28\x32\x80\x3C\x8C\xAA\xC8\xE6");
     read(b"CP\x02\x01\x3C\x32\x32\x1E\x01\x02\x03\x04\x05\x06\x07\x08\x09\x0A");
     read(b"CP\x01\x03\x28\x1E\x32\x37\x3C\x8C\xAA\xC8\xC7");
+    read(b"CP\x04\x01\x1E\x28\x32\x37\x3C\x8C\xAA\xC8\xE6");
+    read(b"CP\x04\x01\x5A\x19\x23\x2D\x23\x8C\xAA\xC8\xE6");
+    read(b"CP\x04\x02\x36\x19\x23\x2D\x37\x8C\xAA\xC8\xE6");
+    read(b"CP\x04\x09\xFF\x19\x23\x2D\x37\x8C\xAA\xC8\xC7");
 }
 
 // 7.
 fn speeds_out_of_order() {
     read(b"CP\x01\x03\x1E\x28\x32\x37\x3C\x8C\xAA\xC8\xC7");
     read(b"CP\x02\x01\x3C\x32\x28\x1E\x01\x02\x03\x04\x02\xFF\x07\x08\x09\x0A");
+    read(b"CP\x04\x0A\x5A\x19\x23\x2D\x37\x8C\xAA\xC8\xC7");
 }
 
 // Into no room and into plenty: 7 is before 9.
 fn refused_plans() {
-    for k in 0..14u8 {
+    for k in 0..20u8 {
         write(figures_samples::refused(k), 0);
         write(figures_samples::refused(k), 20);
     }
@@ -124,6 +142,9 @@ fn rooms() {
     write(figures_samples::stepped(), 17);
     write(figures_samples::stepped(), 18);
     write(figures_samples::stepped(), 20);
+    write(figures_samples::banked(10), 12);
+    write(figures_samples::banked(10), 13);
+    write(figures_samples::banked(10), 14);
 }
 
 // The other chip's values are neither checked nor written.
@@ -156,4 +177,5 @@ fn main() {
     rooms();
     write(both_chips(1), 20);
     write(both_chips(2), 20);
+    write(both_chips(4), 20);
 }
