@@ -1,25 +1,20 @@
 // Plays that stop at each number of writes, `stop chip C table T count N writes N changed N`, then for five temperatures `T OLD STOP PLAN`: the speed
 // that the image asked before, asks at the stop, and that the plan asks. At no stop is it slower than the slower of the old one and the plan's.
+// `played chip 4 table T select SS writes N changed` has each position that a whole play changes, and its byte.
 use crate::script_lines;
 use curves::Plan;
 
-fn temperature(chip: u8, k: u8) -> u8 {
-    if chip == 1 {
-        match k {
-            0 => 0xEC,
-            1 => 38,
-            2 => 43,
-            3 => 53,
-            _ => 60,
-        }
-    } else {
-        match k {
-            0 => 15,
-            1 => 30,
-            2 => 50,
-            3 => 60,
-            _ => 75,
-        }
+const SLOPED: [u8; 5] = [0xEC, 38, 43, 53, 60];
+
+const STEPPED: [u8; 5] = [15, 30, 50, 60, 75];
+
+const BANKED: [u8; 5] = [0xEC, 38, 43, 53, 90];
+
+fn temperatures(chip: u8) -> [u8; 5] {
+    match chip {
+        1 => SLOPED,
+        2 => STEPPED,
+        _ => BANKED,
     }
 }
 
@@ -29,12 +24,26 @@ fn differ(a: u8, b: u8) -> u64 {
 }
 
 // How many bytes of an image have changed.
-fn changed(old: [u8; 256], new: [u8; 256]) -> u64 {
+fn changed(old: &[u8], new: &[u8]) -> u64 {
     let mut count: u64 = 0;
-    for at in 0..256 {
-        count = std::num::wrapping_add_u64(count, differ(old[at], new[at]));
+    for at in 0..old.len() {
+        if at < new.len() {
+            count = std::num::wrapping_add_u64(count, differ(old[at], new[at]));
+        }
     }
     count
+}
+
+fn put(image: &mut [u8], at: usize, byte: u8) {
+    if at < image.len() {
+        image[at] = byte;
+    }
+}
+
+fn copy(old: &[u8], new: &mut [u8]) {
+    for at in 0..old.len() {
+        put(new, at, old[at]);
+    }
 }
 
 fn speeds_at(plan: Plan, old: &[u8], new: &[u8], t: u8) {
@@ -51,29 +60,31 @@ fn speeds_at(plan: Plan, old: &[u8], new: &[u8], t: u8) {
     figures_samples::speed(plan.chip, plans::asked_of_plan(plan, t));
 }
 
-fn speeds(plan: Plan, old: [u8; 256], new: [u8; 256]) {
-    for k in 0..5u8 {
-        speeds_at(plan, &old, &new, temperature(plan.chip, k));
+fn speeds(plan: Plan, old: &[u8], new: &[u8]) {
+    let at = temperatures(plan.chip);
+    for k in 0..5 {
+        speeds_at(plan, old, new, at[k]);
     }
 }
 
-fn stop(plan: Plan, old: [u8; 256], count: usize) {
-    let mut new = old;
+// Played on a copy of the image.
+fn stop(plan: Plan, old: &[u8], new: &mut [u8], count: usize) {
+    copy(old, new);
     figures_printing::text(b"stop");
     figures_samples::head(plan);
     figures_printing::labelled(b" count ", count as u64);
-    script_lines::made(plays::play(plan, &mut new, count));
+    script_lines::made(plays::play(plan, new, count));
     figures_printing::labelled(b" changed ", changed(old, new));
     speeds(plan, old, new);
     figures_printing::line_end();
 }
 
 // At each number of writes up to one more than there are, and at the greatest number.
-fn stops(plan: Plan, old: [u8; 256], counts: usize) {
+fn stops(plan: Plan, old: &[u8], new: &mut [u8], counts: usize) {
     for count in 0..counts {
-        stop(plan, old, count);
+        stop(plan, old, new, count);
     }
-    stop(plan, old, 0xFFFFFFFFFFFFFFFF);
+    stop(plan, old, new, 0xFFFFFFFFFFFFFFFF);
 }
 
 fn power_on(chip: u8) -> [u8; 256] {
@@ -88,27 +99,117 @@ fn loaded(plan: Plan) -> [u8; 256] {
     image
 }
 
-pub fn print_all() {
-    // With the temperatures first, 38 degrees would ask 140, less than either curve.
-    let slope = figures_samples::slope(1, 1, [40, 44, 48, 52], 65, [150, 210, 220, 250]);
-    stops(slope, power_on(1), 15);
+fn stops_from(plan: Plan, old: [u8; 256], counts: usize) {
+    let mut new = [0u8; 256];
+    stops(plan, &old, &mut new, counts);
+}
+
+fn stop_from(plan: Plan, old: [u8; 256], count: usize) {
+    let mut new = [0u8; 256];
+    stop(plan, &old, &mut new, count);
+}
+
+// With the temperatures first, 38 degrees would ask 140, less than either curve: chip 1's and chip 4's registers hold the same at power-on.
+fn slope(chip: u8, table: u8, critical: u8) -> Plan {
+    figures_samples::slope(
+        chip,
+        table,
+        [40, 44, 48, 52],
+        critical,
+        [150, 210, 220, 250],
+    )
+}
+
+// Of chips 1 and 2.
+fn one_bank() {
+    let slope = slope(1, 1, 65);
+    stops_from(slope, power_on(1), 15);
     let steps = figures_samples::steps(
         1,
         [70, 55, 45, 20],
         [0x00FF, 0x01FF, 0x02FF, 0x0300, 0xFFFF],
     );
-    stops(steps, power_on(2), 26);
+    stops_from(steps, power_on(2), 26);
     // From 0200h to 01FFh: with the low byte first, 60 degrees would ask 02FFh.
     let earlier = figures_samples::steps(
         1,
         [60, 50, 40, 30],
         [0x0100, 0x0200, 0x0300, 0x0400, 0x0500],
     );
-    stops(steps, loaded(earlier), 26);
+    stops_from(steps, loaded(earlier), 26);
     // The image of another chip, and an image with one bit of its identity turned over: nothing is written.
-    stop(slope, power_on(2), 13);
-    stop(steps, power_on(1), 24);
+    stop_from(slope, power_on(2), 13);
+    stop_from(steps, power_on(1), 24);
     let mut image = power_on(1);
     image[0xFF] = image[0xFF] ^ 0x10;
-    stop(slope, image, 13);
+    stop_from(slope, image, 13);
+}
+
+fn power_on_banked(select: u8) -> [u8; 1280] {
+    let mut image = [0u8; 1280];
+    images::reset(4, &mut image);
+    image[0xFF] = select;
+    image
+}
+
+// Table 7 in no order, while a bank is selected that the sheet lacks, and bit 5 of the select register is set.
+fn unordered() -> [u8; 1280] {
+    let mut image = power_on_banked(0x2E);
+    image[0x412] = 85;
+    image[0x440] = 30;
+    image[0x441] = 60;
+    image[0x442] = 40;
+    image[0x443] = 50;
+    image[0x444] = 200;
+    image[0x445] = 100;
+    image[0x446] = 50;
+    image[0x447] = 220;
+    image
+}
+
+fn stops_from_banked(plan: Plan, old: [u8; 1280]) {
+    let mut new = [0u8; 1280];
+    stops(plan, &old, &mut new, 16);
+}
+
+fn stop_from_banked(plan: Plan, old: [u8; 1280], count: usize) {
+    let mut new = [0u8; 1280];
+    stop(plan, &old, &mut new, count);
+}
+
+// Of chip 4.
+fn banked() {
+    stops_from_banked(slope(4, 1, 95), power_on_banked(0));
+    stops_from_banked(slope(4, 7, 95), unordered());
+    // An image of another length, and one with one bit of its identity turned over: nothing is written.
+    stop_from(slope(4, 1, 95), power_on(1), 14);
+    stop_from_banked(slope(1, 1, 65), power_on_banked(0), 13);
+    let mut image = unordered();
+    image[0x7C] = image[0x7C] ^ 0x10;
+    stop_from_banked(slope(4, 7, 95), image, 14);
+}
+
+// From another bank each time.
+fn played(table: u8) {
+    let old = power_on_banked(table % 8);
+    let mut new = old;
+    figures_printing::labelled(b"played chip 4 table ", table as u64);
+    figures_printing::text(b" select ");
+    figures_printing::byte(table % 8);
+    script_lines::made(plays::play(figures_samples::banked(table), &mut new, 14));
+    figures_printing::text(b" changed");
+    figures_printing::changes(&old, &new);
+    figures_printing::line_end();
+}
+
+fn all_played() {
+    for table in 1..11u8 {
+        played(table);
+    }
+}
+
+pub fn print_all() {
+    one_bank();
+    banked();
+    all_played();
 }

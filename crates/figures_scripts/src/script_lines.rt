@@ -24,15 +24,22 @@ fn script(plan: Plan, room: usize) {
     figures_printing::line_end();
 }
 
+// The request's first plan of chip 4.
+fn first_banked() -> Plan {
+    figures_samples::slope(4, 1, [25, 35, 45, 55], 90, [140, 170, 200, 230])
+}
+
 // 9 where a byte is missing.
 fn rooms() {
     script(figures_samples::paper(1, 3), 25);
     script(figures_samples::paper(1, 3), 26);
     script(figures_samples::stepped(), 47);
     script(figures_samples::stepped(), 48);
+    script(first_banked(), 27);
+    script(first_banked(), 28);
 }
 
-// A script for every table of every chip; a tail is kept.
+// A script for every table of chips 1 and 2; a tail is kept.
 fn tables() {
     script(figures_samples::paper(1, 1), 50);
     script(figures_samples::paper(1, 2), 50);
@@ -44,11 +51,19 @@ fn tables() {
         [0x1112, 0x1314, 0x1516, 0x1718, 0x191A],
     );
     script(fan_2, 50);
+    script(first_banked(), 50);
+}
+
+// The request's second plan is that of table 10.
+fn banked_tables() {
+    for table in 1..11u8 {
+        script(figures_samples::banked(table), 50);
+    }
 }
 
 // Into no room and into plenty: 7 is before 9.
 fn refused_scripts() {
-    for k in 0..14u8 {
+    for k in 0..20u8 {
         script(figures_samples::refused(k), 0);
         script(figures_samples::refused(k), 50);
     }
@@ -62,7 +77,7 @@ fn play_on_part(plan: Plan, buffer: &mut [u8], length: usize) {
 }
 
 fn play(plan: Plan, length: usize) {
-    let mut buffer = [figures_printing::FILL; 257];
+    let mut buffer = [figures_printing::FILL; 1281];
     figures_printing::text(b"play");
     figures_samples::show(plan);
     figures_printing::labelled(b" length ", length as u64);
@@ -73,9 +88,10 @@ fn play(plan: Plan, length: usize) {
 
 // On too few bytes for an image, and on enough: 7 is before 8 and 10.
 fn refused_plays() {
-    for k in 0..14u8 {
+    for k in 0..20u8 {
         play(figures_samples::refused(k), 255);
         play(figures_samples::refused(k), 256);
+        play(figures_samples::refused(k), 1280);
     }
 }
 
@@ -85,13 +101,18 @@ fn not_images(plan: Plan) {
     play(plan, 255);
     play(plan, 256);
     play(plan, 257);
+    play(plan, 1279);
+    play(plan, 1280);
+    play(plan, 1281);
 }
 
 pub fn print_all() {
     rooms();
     tables();
+    banked_tables();
     refused_scripts();
     refused_plays();
     not_images(figures_samples::paper(1, 3));
     not_images(figures_samples::stepped());
+    not_images(first_banked());
 }

@@ -1,24 +1,26 @@
--- `demand_lines::changed` is safe and ends: the loop counts up to 256.
+-- `demand_lines::changed` is safe and ends: the loop counts up to the length.
 -- Assumes nothing.
 use borrow.Author.Needs.{needs}
 use Prim.Native.Nat.{_≤_, _-_}
+use lib.ListN.{length}
+use mathlib.Core.Path.{_≡_}
 use Rattle.figures_scripts.proofs.demand_lines.changed.Statement.{statement}
 use Rattle.figures_scripts.proofs.demand_lines.changed.Tie as tie
 
 abbrev Inv-loop : tie.InvT-loop
-Inv-loop old new count₀ at₀ count at = at ≤ 256
+Inv-loop old new count₀ at₀ at-end count at = (at ≤ at-end) × (at-end ≡ length old)
 
 abbrev μ-loop : tie.MeasureT-loop
-μ-loop old new count₀ at₀ count at = 256 - at
+μ-loop old new count₀ at₀ at-end count at = at-end - at
 
 loop-holds : tie.Need-loop-holds Inv-loop μ-loop
 loop-holds c = search needs
 
-array-read-differ : tie.Need-array-read-differ Inv-loop μ-loop
-array-read-differ c = search needs
+shared-slice-read-differ : tie.Need-shared-slice-read-differ Inv-loop μ-loop
+shared-slice-read-differ c = search needs
 
-array-read-differ-2 : tie.Need-array-read-differ-2 Inv-loop μ-loop
-array-read-differ-2 c = search needs
+shared-slice-read-differ-2 : tie.Need-shared-slice-read-differ-2 Inv-loop μ-loop
+shared-slice-read-differ-2 c = search needs
 
 differ-requires : tie.Need-differ-requires Inv-loop μ-loop
 differ-requires c κs = search needs
@@ -45,8 +47,8 @@ changed-spec =
     Inv-loop
     μ-loop
     loop-holds
-    array-read-differ
-    array-read-differ-2
+    shared-slice-read-differ
+    shared-slice-read-differ-2
     differ-requires
     wrapping-add-u64-requires
     add-at

@@ -6,22 +6,19 @@ use Rattle.figures_scripts.proofs.demand_lines.speeds.Statement.{statem
 use Rattle.figures_scripts.proofs.demand_lines.speeds.Tie as tie
 
 abbrev Inv-loop : tie.InvT-loop
-Inv-loop plan old new k₀ k = k ≤ 5
+Inv-loop plan old new at k₀ k = k ≤ 5
 
 abbrev μ-loop : tie.MeasureT-loop
-μ-loop plan old new k₀ k = 5 - k
+μ-loop plan old new at k₀ k = 5 - k
+
+temperatures-requires : tie.Need-temperatures-requires Inv-loop μ-loop
+temperatures-requires c κs = search needs
 
 loop-holds : tie.Need-loop-holds Inv-loop μ-loop
 loop-holds c = search needs
 
-slice-aggregate-speeds-at : tie.Need-slice-aggregate-speeds-at Inv-loop μ-loop
-slice-aggregate-speeds-at c = search needs
-
-slice-aggregate-speeds-at-2 : tie.Need-slice-aggregate-speeds-at-2 Inv-loop μ-loop
-slice-aggregate-speeds-at-2 c = search needs
-
-temperature-requires : tie.Need-temperature-requires Inv-loop μ-loop
-temperature-requires c κs = search needs
+array-read-speeds-at : tie.Need-array-read-speeds-at Inv-loop μ-loop
+array-read-speeds-at c = search needs
 
 speeds-at-requires : tie.Need-speeds-at-requires Inv-loop μ-loop
 speeds-at-requires c κs = search needs
@@ -44,10 +41,9 @@ speeds-spec =
     (tie.spec
     Inv-loop
     μ-loop
+    temperatures-requires
     loop-holds
-    slice-aggregate-speeds-at
-    slice-aggregate-speeds-at-2
-    temperature-requires
+    array-read-speeds-at
     speeds-at-requires
     add-k
     loop-less

@@ -2,14 +2,16 @@
 -- Assumes what libc promises of `write`: that it moves no more bytes than its buffer has.
 use borrow.Author.Needs.{needs}
 use Prim.Native.Nat.{_≤_, _-_}
+use lib.ListN.{length}
+use mathlib.Core.Path.{_≡_}
 use Rattle.figures_scripts.proofs.demand_lines.stops.Statement.{statement}
 use Rattle.figures_scripts.proofs.demand_lines.stops.Tie as tie
 
 abbrev Inv-loop : tie.InvT-loop
-Inv-loop plan old counts count₀ count = count ≤ counts
+Inv-loop plan old new₀ counts count₀ new count = (count ≤ counts) × (length new ≡ length new₀)
 
 abbrev μ-loop : tie.MeasureT-loop
-μ-loop plan old counts count₀ count = counts - count
+μ-loop plan old new₀ counts count₀ new count = counts - count
 
 loop-holds : tie.Need-loop-holds Inv-loop μ-loop
 loop-holds c = search needs
@@ -29,6 +31,9 @@ loop-again c = search needs
 stop-requires-2 : tie.Need-stop-requires-2 Inv-loop μ-loop
 stop-requires-2 c κs = search needs
 
+same-length : tie.Need-same-length Inv-loop μ-loop
+same-length c = search needs
+
 returns : tie.Need-returns Inv-loop μ-loop
 returns c = search needs
 
@@ -44,4 +49,5 @@ stops-spec =
     loop-less
     loop-again
     stop-requires-2
+    same-length
     returns)
