@@ -9,8 +9,11 @@ import sys
 FOLDER = sys.argv[1] if len(sys.argv) > 1 else os.path.dirname(os.path.abspath(__file__))
 MARK = [0x43, 0x50]
 
-# Where each chip's fan tables begin.
+# Where each chip's fan tables begin. Chip 4's stand in banks: the bank, critical, and where T1 to T4 and P1 to P4 begin.
 BASES = {1: {1: 0x80, 2: 0x90, 3: 0xA0}, 2: {1: 0xA0, 2: 0xB0}}
+BANKS = {n: (3, 0x20 + n - 1, 0x30 + 8 * (n - 1)) for n in (1, 2, 3, 4)}
+BANKS.update({n: (4, 0x10 + n - 5, 0x30 + 8 * (n - 5)) for n in (5, 6, 7, 8, 9, 10)})
+SELECT = 0xFF
 
 
 def halves(counts):
@@ -18,19 +21,28 @@ def halves(counts):
 
 
 def record(chip, table, settings, speeds):
-    """Chip 1: T1 to T4 and critical, then FL1 to FL4. Chip 2: B1 to B4, then C1 to C5, high byte first."""
+    """Chip 1: T1 to T4 and critical, then FL1 to FL4. Chip 2: B1 to B4, then C1 to C5, high byte first. Chip 4: critical, T1 to T4, P1 to P4."""
+    if chip == 4:
+        settings = settings[4:] + settings[:4]
     body = settings + (halves(speeds) if chip == 2 else speeds)
     return MARK + [chip, table] + body
 
 
-def text(number, chip, table, settings, speeds):
-    """Raise every speed, move every setting, settle every speed."""
-    full, speeds = (0x00, halves(speeds)) if chip == 2 else (0xFF, speeds)
+def registers(chip, table, settings, speeds):
+    """What selects a bank, and the addresses of the settings and of the speeds."""
+    if chip == 4:
+        bank, critical, first = BANKS[table]
+        return [(SELECT, bank)], [*range(first, first + 4), critical], range(first + 4, first + 8)
     base = BASES[chip][table]
     first = base + len(settings)
-    writes = [(first + k, full) for k in range(len(speeds))]
-    writes += [(base + k, byte) for k, byte in enumerate(settings)]
-    writes += [(first + k, byte) for k, byte in enumerate(speeds)]
+    return [], range(base, first), range(first, first + len(speeds))
+
+
+def text(number, chip, table, settings, speeds):
+    """Select a bank where there is more than one, raise every speed, move every setting, settle every speed."""
+    full, speeds = (0x00, halves(speeds)) if chip == 2 else (0xFF, speeds)
+    writes, of_settings, of_speeds = registers(chip, table, settings, speeds)
+    writes = writes + [(at, full) for at in of_speeds] + list(zip(of_settings, settings)) + list(zip(of_speeds, speeds))
     lines = ['plan %d chip %d table %d writes %d' % (number, chip, table, len(writes))]
     return lines + ['%02X %02X' % write for write in writes]
 
@@ -65,14 +77,22 @@ MILD = (1, 2, [20, 35, 50, 65, 65], [60, 60, 60, 60])
 FAN_1 = (2, 1, [60, 50, 40, 30], [0x01FF, 0x0200, 0x0300, 0x0800, 0xFFFF])
 FAN_2 = (2, 2, [80, 70, 45, 0], [0, 0, 1000, 1000, 65535])
 
+# Chip 4's power-on curve, and one with a temperature below zero: T1 to T4 and critical, P1 to P4. Each of its ten tables gets one that is its own.
+LIKE_POWER_ON = (4, 1, [25, 35, 45, 55, 90], [140, 170, 200, 230])
+BELOW_ZERO = (4, 10, [256 - 20, 0, 20, 50, 127], [0, 64, 128, 255])
+TEN = [(4, n, [20 + n, 30 + n, 40 + n, 50 + n, 80 + n], [10 * n, 10 * n + 50, 10 * n + 100, 10 * n + 150]) for n in range(1, 11)]
+
 whole('chip-1', [PAPER])
 whole('chip-2', [FAN_1])
+whole('chip-4', [LIKE_POWER_ON])
+whole('chip-4-table-10', [BELOW_ZERO])
+whole('chip-4-tables', TEN)
 whole('several', [COLD, FAN_2, MILD, PAPER, FAN_1])
 whole('empty', [])
 
 refused('refused-1', [PAPER], 1, MARK + [1])
 refused('refused-2', [], 2, [0x43, 0x51, 1, 3])
-refused('refused-3', [], 3, MARK + [4, 1])
+refused('refused-3', [], 3, MARK + [5, 1])
 refused('refused-4', [], 4, MARK + [3, 1])
 refused('refused-5', [FAN_2], 5, record(*PAPER)[:-1])
 refused('refused-6', [], 6, record(1, 1, [30, 40, 40, 55, 60], [140, 170, 200, 230]))
@@ -83,5 +103,5 @@ FULL = [FAN_1] * 216 + [PAPER] * 16
 whole('full', FULL)
 write('too-long', accepted(FULL)[0] + [0x43], ['input too long'])
 
-# The longest text of all: 226 records of 18 bytes and 2 of 13 leave 2 bytes.
-refused('longest-text', [FAN_1] * 226 + [PAPER] * 2, 1, MARK)
+# The longest text of all: 226 records of 18 bytes and 2 of 13 leave 2 bytes, and the longest that 13 bytes give is that of table 10 of chip 4.
+refused('longest-text', [FAN_1] * 226 + [BELOW_ZERO] * 2, 1, MARK)
