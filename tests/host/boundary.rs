@@ -71,7 +71,7 @@ fn images(g: &mut Ground, r: &mut Random, side: Side) {
         |from, _| s.read(chip, from, address),
     );
     g.call("identity", side, &image, &[], |from, _| model::identity(chip, from), |from, _| s.identity(chip, from));
-    let table = r.table();
+    let table = r.table(chip);
     g.call(
         "asked_of_image", side, &image, &[],
         |from, _| model::asked_of_image(chip, table, from, byte),

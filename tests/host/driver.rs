@@ -89,11 +89,10 @@ impl<'a, S: Subject> Driver<'a, S> {
         let want = model(buffer);
         let all = (inputs, Lent(&before));
         let answer = self.plain(which, &all, 0, want, |subject| ask(subject, &mut theirs));
-        for (k, (want, got)) in buffer.iter().zip(&theirs).enumerate() {
-            if want != got {
-                let all = (inputs, Lent(&before), "the lent buffer afterwards, at", k);
-                stop(NAMES[which], &all, &Lent(&buffer[k..]), &Lent(&theirs[k..]));
-            }
+        if buffer != theirs {
+            let k = buffer.iter().zip(&theirs).take_while(|(want, got)| want == got).count();
+            let all = (inputs, Lent(&before), "the lent buffer afterwards, at", k);
+            stop(NAMES[which], &all, &Lent(&buffer[k..]), &Lent(&theirs[k..]));
         }
         if answer.0 != 0 && before != theirs {
             stop("each lent buffer holds what it held", &all, &answer, &Lent(&theirs));
@@ -185,6 +184,33 @@ impl<'a, S: Subject> Driver<'a, S> {
         let want = model::asked_of_image(chip, table, image, t);
         let inputs = (chip, table, image, t);
         self.plain(12, &inputs, 0, want, |s| s.asked_of_image(chip, table, image, t))
+    }
+
+    /// What is asked at every T, from 00h to FFh.
+    fn at_all(
+        &mut self, which: usize, inputs: &dyn Debug, want: Vec<(u32, u16)>,
+        ask: impl Fn(&S, u8) -> (u32, u16),
+    ) -> Vec<(u32, u16)> {
+        self.calls[which] += 256;
+        let all = || (0..=255).map(|t| ask(self.subject, t)).collect();
+        let got: Vec<(u32, u16)> = match catch_unwind(AssertUnwindSafe(all)) {
+            Err(_) => stop(NAMES[which], inputs, &want, &"no answer: it panicked"),
+            Ok(got) => got,
+        };
+        if let Some(t) = (0..256).find(|t| want[*t] != got[*t]) {
+            stop(NAMES[which], &(inputs, t), &want[t], &got[t]);
+        }
+        want
+    }
+
+    pub fn asked_of_plan_at_all(&mut self, plan: Plan) -> Vec<(u32, u16)> {
+        let want = (0..=255).map(|t| model::asked_of_plan(plan, t)).collect();
+        self.at_all(11, &plan, want, |s, t| s.asked_of_plan(plan, t))
+    }
+
+    pub fn asked_of_image_at_all(&mut self, chip: u8, table: u8, image: &[u8]) -> Vec<(u32, u16)> {
+        let want = (0..=255).map(|t| model::asked_of_image(chip, table, image, t)).collect();
+        self.at_all(12, &(chip, table, image), want, |s, t| s.asked_of_image(chip, table, image, t))
     }
 
     pub fn read_record(&mut self, bytes: &[u8]) -> (u32, u8, u8, [u8; BODY], usize) {

@@ -3,7 +3,7 @@
 
 use crate::cards::{F75373S, NCT7802Y, NCT80};
 use crate::driver::{hold, Driver};
-use crate::model::{Plan, Watch, IMAGE};
+use crate::model::{self, Plan, Watch};
 use crate::subject::Subject;
 use crate::rounds::never_slower;
 use crate::tests::power_on;
@@ -31,13 +31,14 @@ pub fn run<S: Subject>(d: &mut Driver<S>) {
 /// Mask, clear mask and power-on byte of a row, found from outside by resets and writes.
 fn row<S: Subject>(d: &mut Driver<S>, chip: u8, address: u8) -> (u8, u8, u8) {
     let at = usize::from(address);
-    let mut image = [0xFF; IMAGE];
+    let length = model::image_length(chip);
+    let mut image = vec![0xFF; length];
     d.write(chip, &mut image, address, 0x00);
     let mask = !image[at];
-    let mut image = [0xFF; IMAGE];
+    let mut image = vec![0xFF; length];
     d.write(chip, &mut image, address, 0xFF);
     let clears = !image[at];
-    let mut image = [0x5A; IMAGE];
+    let mut image = vec![0x5A; length];
     d.reset(chip, &mut image);
     (mask, clears, image[at])
 }
@@ -259,23 +260,23 @@ fn cut_bodies<S: Subject>(d: &mut Driver<S>) {
     for (chip, body) in [(1, &EXAMPLE[4..]), (2, &two)] {
         for length in 0..body.len() {
             let cut = &body[..length];
-            hold(refusals(chip, 1, cut, 48, &mut [0; IMAGE]) == [5; 4], "a cut body", &cut);
+            hold(refusals(chip, 1, cut, 48, &mut [0; 256]) == [5; 4], "a cut body", &cut);
             hold(refusals(chip, 1, cut, 0, &mut []) == [5; 4], "5 before 8, 9 and 10", &cut);
             hold(refusals(chip, 0, cut, 0, &mut []) == [4; 4], "4 before 5", &cut);
             hold(refusals(3, 1, cut, 0, &mut []) == [4; 4], "no table of chip 3", &cut);
             hold(refusals(4, 1, cut, 0, &mut []) == [3; 4], "3 before 5", &cut);
         }
         hold(refusals(chip, 1, body, 12, &mut [0; 255]) == [9, 9, 8, 0], "a whole body", &body);
-        hold(refusals(chip, 1, body, 48, &mut [0; IMAGE]) == [0, 0, 10, 0], "a whole body", &body);
+        hold(refusals(chip, 1, body, 48, &mut [0; 256]) == [0, 0, 10, 0], "a whole body", &body);
     }
     // Out of order, but 6 and 7 only when the body is whole; what is asked is refused by neither.
     let unordered = [40; 14];
-    hold(refusals(1, 1, &unordered[..8], 48, &mut [0; IMAGE]) == [5; 4], "5 before 6", &1);
+    hold(refusals(1, 1, &unordered[..8], 48, &mut [0; 256]) == [5; 4], "5 before 6", &1);
     hold(refusals(1, 1, &unordered[..9], 0, &mut []) == [6, 6, 6, 0], "then 6", &1);
-    hold(refusals(2, 2, &unordered[..13], 48, &mut [0; IMAGE]) == [5; 4], "5 before 6", &2);
+    hold(refusals(2, 2, &unordered[..13], 48, &mut [0; 256]) == [5; 4], "5 before 6", &2);
     hold(refusals(2, 2, &unordered, 0, &mut []) == [6, 6, 6, 0], "then 6", &2);
     let falling = [10, 20, 30, 40, 50, 4, 3, 2, 1];
-    hold(refusals(1, 3, &falling[..8], 48, &mut [0; IMAGE]) == [5; 4], "5 before 7", &1);
+    hold(refusals(1, 3, &falling[..8], 48, &mut [0; 256]) == [5; 4], "5 before 7", &1);
     hold(refusals(1, 3, &falling, 0, &mut []) == [7, 7, 7, 0], "then 7", &1);
 }
 

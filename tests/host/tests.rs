@@ -2,7 +2,7 @@
 //! are checked on the agreed answers.
 
 use crate::driver::{hold, Driver, NAMES};
-use crate::model::{Plan, Watch, BODY, IMAGE, SCRIPT};
+use crate::model::{self, Plan, Watch, BODY, SCRIPT};
 use crate::random::{Draft, Random};
 use crate::rounds::{
     cut_bodies, cuts, damaged_records, images, plans, plays, records, runs, texts, watches,
@@ -39,7 +39,7 @@ pub fn run<S: Subject>(d: &mut Driver<S>, seed: u64, rounds: usize) {
 
 /// A power-on image.
 pub fn power_on<S: Subject>(d: &mut Driver<S>, chip: u8) -> Vec<u8> {
-    let mut image = vec![0xA5; IMAGE];
+    let mut image = vec![0xA5; model::image_length(chip)];
     hold(d.reset(chip, &mut image) == 0, "a reset is accepted", &chip);
     image
 }
@@ -108,7 +108,7 @@ fn every_body<S: Subject>(d: &mut Driver<S>, r: &mut Random) {
 fn every_write<S: Subject>(d: &mut Driver<S>, r: &mut Random) {
     for chip in 1..=3 {
         for address in 0..=255 {
-            let mut image = r.bytes(IMAGE);
+            let mut image = r.bytes(model::image_length(chip));
             for byte in 0..=255 {
                 image[usize::from(address)] = r.byte();
                 d.write(chip, &mut image, address, byte);
@@ -122,7 +122,7 @@ fn every_write<S: Subject>(d: &mut Driver<S>, r: &mut Random) {
 fn every_flip<S: Subject>(d: &mut Driver<S>) {
     for chip in 1..=3 {
         let image = power_on(d, chip);
-        for bit in 0..8 * IMAGE {
+        for bit in 0..8 * image.len() {
             let mut flipped = image.clone();
             flipped[bit / 8] ^= 1 << (bit % 8);
             let refusal = d.identity(chip, &flipped);
