@@ -21,7 +21,7 @@ struct Ground {
 
 fn ground(seed: u64) -> Ground {
     let r = &mut Random::new(seed);
-    let plans: Vec<Draft> = (0..WORK).map(|_| r.good_plan()).collect();
+    let plans: Vec<Draft> = (0..WORK).map(|k| r.good_plan_of(1 + (k % 2) as u8)).collect();
     // 160 records of chip 1 and 112 of chip 2 are exactly 4,096 bytes.
     let mut input = Vec::new();
     for k in 0..272 {

@@ -6,15 +6,16 @@ use crate::subject::Subject;
 use std::fmt::{Debug, Formatter, Result};
 use std::panic::{catch_unwind, AssertUnwindSafe};
 
-pub const NAMES: [&str; 19] = [
+pub const NAMES: [&str; 22] = [
     "write", "read", "reset", "identity", "steps_of", "bytes_of", "microvolts", "sample",
     "acknowledge", "output", "judge", "asked_of_plan", "asked_of_image", "read_record",
-    "write_record", "script", "play", "translate", "run",
+    "write_record", "script", "play", "translate", "run", "right_steps", "right_bytes",
+    "input_microvolts",
 ];
 
 pub struct Driver<'a, S: Subject> {
     subject: &'a S,
-    pub calls: [u64; 19],
+    pub calls: [u64; NAMES.len()],
 }
 
 /// Prints what is known and ends the run.
@@ -35,19 +36,19 @@ pub fn hold(fact: bool, what: &str, inputs: &dyn Debug) {
     }
 }
 
-/// A lent buffer as it is printed: whole up to 320 bytes, else its length and first bytes.
+/// A lent buffer as it is printed: whole up to 1,280 bytes, else its length and first bytes.
 struct Lent<'a>(&'a [u8]);
 
 impl Debug for Lent<'_> {
     fn fmt(&self, f: &mut Formatter) -> Result {
-        let shown = &self.0[..self.0.len().min(320)];
+        let shown = &self.0[..self.0.len().min(1280)];
         write!(f, "lent {} bytes: {:02X?}", self.0.len(), shown)
     }
 }
 
 impl<'a, S: Subject> Driver<'a, S> {
     pub fn new(subject: &'a S) -> Self {
-        Driver { subject, calls: [0; 19] }
+        Driver { subject, calls: [0; NAMES.len()] }
     }
 
     pub fn total(&self) -> u64 {
@@ -141,6 +142,24 @@ impl<'a, S: Subject> Driver<'a, S> {
 
     pub fn microvolts(&mut self, word: u16) -> u32 {
         self.agree(6, &word, model::microvolts(word), |s| s.microvolts(word))
+    }
+
+    pub fn right_steps(&mut self, high: u8, low: u8) -> i16 {
+        let want = model::right_steps(high, low);
+        self.agree(19, &(high, low), want, |s| s.right_steps(high, low))
+    }
+
+    pub fn right_bytes(&mut self, steps: i16) -> (u32, u8, u8) {
+        let pack = |(refusal, high, low): (u32, u8, u8)| (refusal, [high, low]);
+        let want = pack(model::right_bytes(steps));
+        let (refusal, [high, low]) =
+            self.plain(20, &steps, [0, 0], want, |s| pack(s.right_bytes(steps)));
+        (refusal, high, low)
+    }
+
+    pub fn input_microvolts(&mut self, input: u8, high: u8, low: u8) -> u32 {
+        let want = model::input_microvolts(input, high, low);
+        self.agree(21, &(input, high, low), want, |s| s.input_microvolts(input, high, low))
     }
 
     /// "A refused sample changes neither fact."

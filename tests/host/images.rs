@@ -2,7 +2,7 @@
 
 use crate::chips::{chip_of, Chip};
 
-/// The chip of an image, or 3, or 8.
+/// The chip of an image, or 3, or 8, which for chip 4 "asks its own image length".
 pub fn image_of(chip: u8, length: usize) -> Result<&'static Chip, u32> {
     let chip = chip_of(chip).ok_or(3u32)?;
     if length == chip.card.len() {
@@ -12,24 +12,40 @@ pub fn image_of(chip: u8, length: usize) -> Result<&'static Chip, u32> {
     }
 }
 
+/// Where in the image an access to an address lands. "An image holds all banks, one after the
+/// other; a register seen in every bank stands in bank 0's page only." "The bank selected is what
+/// the bank bits of the bank select register say, whatever its other bits hold." A bank the sheet
+/// lacks would stand past the image: there nothing answers.
+fn place(chip: &Chip, image: &[u8], address: u8) -> Option<usize> {
+    let bank = match &chip.banks {
+        Some(banks) if !banks.everywhere.contains(&address) => {
+            usize::from(image[usize::from(banks.select)] & banks.bits)
+        }
+        _ => 0,
+    };
+    Some(256 * bank + usize::from(address)).filter(|at| *at < image.len())
+}
+
 /// "A byte write to an address replaces the writable bits, clears those clear bits where a
-/// 1 is written, and keeps the others. Every other address keeps its byte."
+/// 1 is written, and keeps the others. Every other address keeps its byte." In a bank the sheet
+/// lacks "writes change nothing".
 pub fn write(chip: u8, image: &mut [u8], address: u8, byte: u8) -> u32 {
     let chip = match image_of(chip, image.len()) {
         Ok(chip) => chip,
         Err(refusal) => return refusal,
     };
-    let at = usize::from(address);
-    let (writable, clears, _) = chip.card[at];
-    let kept = image[at] & !writable & !(clears & byte);
-    image[at] = kept | (byte & writable);
+    if let Some(at) = place(chip, image, address) {
+        let (writable, clears, _) = chip.card[at];
+        let kept = image[at] & !writable & !(clears & byte);
+        image[at] = kept | (byte & writable);
+    }
     0
 }
 
-/// "A read returns the byte and changes nothing."
+/// "A read returns the byte and changes nothing." In a bank the sheet lacks "reads give 0".
 pub fn read(chip: u8, image: &[u8], address: u8) -> (u32, u8) {
     match image_of(chip, image.len()) {
-        Ok(_) => (0, image[usize::from(address)]),
+        Ok(chip) => (0, place(chip, image, address).map_or(0, |at| image[at])),
         Err(refusal) => (refusal, 0),
     }
 }
@@ -46,7 +62,8 @@ pub fn reset(chip: u8, image: &mut [u8]) -> u32 {
     0
 }
 
-/// "Confirmed means all of them." Refusal 10 "for chip 3 always: it has no identity rule here".
+/// "Confirmed means all of them", in bank 0's page whichever bank is selected. Refusal 10 "for
+/// chip 3 always: it has no identity rule here".
 pub fn identity(chip: u8, image: &[u8]) -> u32 {
     let chip = match image_of(chip, image.len()) {
         Ok(chip) => chip,

@@ -1,20 +1,23 @@
-//! A plain model of the base, written from the rules paper alone. Every function answers
-//! every input. 0 means accepted; any other number is the paper's refusal number.
+//! A plain model of the base and chip 4, written from the rules paper, the request for chip 4 and
+//! its data sheet alone. Every function answers every input. 0 means accepted; any other number is the paper's refusal number.
 //! "A refusal returns its number and zero in every other part of the answer (a watch comes
 //! back unchanged), and each lent buffer holds what it held."
 
 use crate::chips::{chip_of, Chip, Curve};
 use crate::images::image_of;
 pub use crate::images::{identity, read, reset, write};
-pub use crate::readings::{acknowledge, bytes_of, microvolts, output, run, sample, steps_of, Watch};
+pub use crate::readings::{
+    acknowledge, bytes_of, input_microvolts, microvolts, output, right_bytes, right_steps, run,
+    sample, steps_of, Watch,
+};
 pub use crate::text::{translate, INPUT};
 
-/// The longest body: "9 bytes for chip 1, 14 for chip 2".
+/// The longest body: "9 bytes for chip 1, 14 for chip 2", 9 for chip 4.
 pub const BODY: usize = 14;
-/// The longest script: 24 writes, two bytes each.
+/// The longest script: 24 writes, two bytes each, of chip 2.
 pub const SCRIPT: usize = 48;
 
-/// The bytes of a chip's image; 256 where there is no such chip.
+/// The bytes of a chip's image: 1,280 for chip 4, else 256, also where there is no such chip.
 pub fn image_length(chip: u8) -> usize {
     chip_of(chip).map_or(256, |chip| chip.card.len())
 }
@@ -27,8 +30,8 @@ pub fn tables(chip: u8) -> usize {
 // ---- Plans and what they ask
 
 /// Chip, table and the body in register order (9 bytes for chip 1: T1 to T4, critical, FL1 to
-/// FL4; 14 for chip 2: B1 to B4, then C1 to C5, high byte first). Fewer are refused with 5,
-/// further ones are ignored.
+/// FL4; 14 for chip 2: B1 to B4, then C1 to C5, high byte first; 9 for chip 4: critical, T1 to T4,
+/// P1 to P4). Fewer are refused with 5, further ones are ignored.
 #[derive(Clone, Copy, Debug)]
 pub struct Plan<'a> {
     pub chip: u8,
@@ -44,8 +47,15 @@ struct Table {
     registers: &'static [usize],
 }
 
-/// 3, "the chip number is not 1, 2 or 3"; 4, "the chip has no such fan table (chip 1: 1 to 3;
-/// chip 2: 1 and 2; chip 3: none)".
+impl Table {
+    /// The writable bits of the register of the body's byte k.
+    fn mask(&self, k: usize) -> u8 {
+        self.chip.card[self.registers[k]].0
+    }
+}
+
+/// 3, the chip number is not 1, 2, 3 or 4; 4, "the chip has no such fan table (chip 1: 1 to 3;
+/// chip 2: 1 and 2; chip 3: none)", chip 4: 1 to 10.
 fn table_of(chip: u8, table: u8) -> Result<Table, u32> {
     let chip = chip_of(chip).ok_or(3u32)?;
     let registers = chip.tables.get(usize::from(table).wrapping_sub(1)).ok_or(4u32)?;
@@ -81,7 +91,7 @@ fn count(body: &[u8; BODY], k: usize) -> u16 {
 
 /// "Accepted if T1 < T2 < T3 < T4, T4 at most critical (else 6), and the duties never fall
 /// from FL1 to FL4 (else 7)." "Accepted if B1 > B2 > B3 > B4 (else 6) and counts never fall
-/// from C1 to C5 (else 7)."
+/// from C1 to C5 (else 7)." "6 and 7 also for a value its register's writable bits can't hold."
 fn order_refusal(table: Table, body: &[u8; BODY]) -> u32 {
     let Table { chip, registers } = table;
     let (temperatures, speeds) = match chip.curve {
@@ -95,6 +105,9 @@ fn order_refusal(table: Table, body: &[u8; BODY]) -> u32 {
             (falling, (0..4).all(|k| count(body, k) <= count(body, k + 1)))
         }
     };
+    let held = |k: usize| body[k] & !table.mask(k) == 0;
+    let temperatures = temperatures && chip.temperatures.iter().all(|k| held(*k));
+    let speeds = speeds && (chip.speeds..registers.len()).all(held);
     match (temperatures, speeds) {
         (false, _) => 6,
         (true, false) => 7,
@@ -149,7 +162,8 @@ fn asked_count(body: &[u8; BODY], t: u8) -> u16 {
     count(body, 4)
 }
 
-/// "T comes as one byte, signed for chip 1 and unsigned for chip 2."
+/// "T comes as one byte, signed for chip 1 and unsigned for chip 2." Chip 4: "T comes signed, as
+/// for chip 1."
 fn asked(chip: &Chip, body: &[u8; BODY], t: u8) -> u16 {
     match chip.curve {
         Curve::Slope => duty(chip, body, t as i8),
@@ -165,7 +179,9 @@ pub fn asked_of_plan(plan: Plan, t: u8) -> (u32, u16) {
     }
 }
 
-/// "Asking a speed of an image checks 3, 4 and 8."
+/// "Asking a speed of an image checks 3, 4 and 8." The curve is "the one its registers hold in their
+/// own banks, whichever bank was selected; a table value is its register's writable bits, all
+/// other bits counting as zero".
 pub fn asked_of_image(chip: u8, table: u8, image: &[u8], t: u8) -> (u32, u16) {
     let table = match table_of(chip, table) {
         Ok(table) => table,
@@ -175,8 +191,8 @@ pub fn asked_of_image(chip: u8, table: u8, image: &[u8], t: u8) -> (u32, u16) {
         return (refusal, 0);
     }
     let mut body = [0; BODY];
-    for (byte, at) in body.iter_mut().zip(table.registers) {
-        *byte = image[*at];
+    for (k, at) in table.registers.iter().enumerate() {
+        body[k] = image[*at] & table.mask(k);
     }
     (0, asked(table.chip, &body, t))
 }
@@ -186,7 +202,7 @@ pub fn asked_of_image(chip: u8, table: u8, image: &[u8], t: u8) -> (u32, u16) {
 /// "A record is a two-byte mark 43h 50h before each plan, chip, table, then the body in the
 /// register order above." The checks are 1 to 7 in the order of the refusal table: the plan
 /// that the record holds is one of the reader's inputs. "The reader answers the plan and the
-/// bytes used, 13 or 18"; body bytes past the chip's own are zero.
+/// bytes used, 13 or 18", 13 for chip 4; body bytes past the chip's own are zero.
 pub fn read_record(bytes: &[u8]) -> (u32, u8, u8, [u8; BODY], usize) {
     let refused = |refusal: u32| (refusal, 0, 0, [0; BODY], 0);
     if bytes.len() < 4 {
@@ -220,6 +236,9 @@ pub fn write_record(plan: Plan, out: &mut [u8]) -> (u32, usize) {
 /// The script of a good plan and its number of writes. "Chip 1: FL1 to FL4 to FFh, then T1 to
 /// T4, critical, then FL1 to FL4 as planned; 13 writes. Chip 2: each high and low byte of C1
 /// to C5 to 00h in address order, then B1 to B4, then C1 to C5, high byte first; 24 writes."
+/// Chip 4: "Its script goes as chip 1's, but selects a bank before the first write and again
+/// wherever the next register lies in another bank"; "a script writes the bank's number there, all
+/// other bits zero". Its tables lie in one bank each, so it has 14 writes.
 fn pairs(table: Table, body: &[u8; BODY]) -> ([u8; SCRIPT], usize) {
     let Table { chip, registers } = table;
     let fastest = match chip.curve {
@@ -234,11 +253,18 @@ fn pairs(table: Table, body: &[u8; BODY]) -> ([u8; SCRIPT], usize) {
         writes += 1;
     };
     let speeds = chip.speeds..registers.len();
-    for k in speeds.clone() {
-        put(registers[k] as u8, fastest);
-    }
-    for k in chip.temperatures.iter().copied().chain(speeds) {
-        put(registers[k] as u8, body[k]);
+    let fast = speeds.clone().map(|k| (k, fastest));
+    let planned = chip.temperatures.iter().copied().chain(speeds).map(|k| (k, body[k]));
+    let mut selected = None;
+    for (k, byte) in fast.chain(planned) {
+        let (bank, address) = ((registers[k] / 256) as u8, (registers[k] % 256) as u8);
+        if let Some(banks) = &chip.banks {
+            if selected != Some(bank) {
+                put(banks.select, bank);
+                selected = Some(bank);
+            }
+        }
+        put(address, byte);
     }
     (script, writes)
 }

@@ -4,10 +4,12 @@ use crate::chips::{chip_of, Curve};
 use crate::model::{self, Plan};
 
 const BYTES: [u8; 6] = [0, 1, 127, 128, 254, 255];
-const LENGTHS: [usize; 15] = [0, 3, 4, 12, 13, 17, 18, 25, 26, 47, 48, 255, 256, 257, 300];
+const LENGTHS: [usize; 20] = [
+    0, 3, 4, 12, 13, 17, 18, 25, 26, 27, 28, 47, 48, 255, 256, 257, 300, 1279, 1280, 1281,
+];
 
 /// The chips that have fan tables.
-pub const PLANNED: [u8; 2] = [1, 2];
+pub const PLANNED: [u8; 3] = [1, 2, 4];
 
 pub struct Random(u64);
 
@@ -85,7 +87,7 @@ impl Random {
         if self.once_in(8) {
             self.byte()
         } else {
-            1 + self.below(3) as u8
+            1 + self.below(4) as u8
         }
     }
 

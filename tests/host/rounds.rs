@@ -157,7 +157,7 @@ pub fn plays<S: Subject>(d: &mut Driver<S>, r: &mut Random, rounds: usize) {
         let chip = if r.once_in(9) { r.chip() } else { draft.chip };
         let mut image = r.image(chip);
         let count = match r.below(8) {
-            0 => [0, 1, 12, 13, 14, 23, 24, 25][r.below(8)],
+            0 => [0, 1, 12, 13, 14, 15, 24, 25][r.below(8)],
             1 => [255, 256, 257, 65536, 65539, usize::MAX / 2 + 1, usize::MAX - 1, usize::MAX][r.below(8)],
             _ => r.below(27),
         };
@@ -183,7 +183,7 @@ pub fn never_slower<S: Subject>(d: &mut Driver<S>, plan: Plan, old: &[u8], scrip
 }
 
 /// An old image that the plan's chip confirms. Its curve is that of power-on, of another good
-/// plan, or any bytes.
+/// plan, or any bytes; chip 4's bank select register holds any byte.
 fn old<S: Subject>(d: &mut Driver<S>, r: &mut Random, plan: Plan, round: usize) -> Vec<u8> {
     let mut image = match round % 4 {
         0 => power_on(d, plan.chip),
@@ -195,20 +195,24 @@ fn old<S: Subject>(d: &mut Driver<S>, r: &mut Random, plan: Plan, round: usize) 
             image[*at] = byte;
         }
     }
+    if plan.chip == 4 {
+        image[0xFF] = r.next() as u8;
+    }
     image
 }
 
 /// Demand 3 by brute force at all cuts: never slower than the slower of old and plan at every
-/// T, exactly the plan after the last write, every byte outside the table as before.
-pub fn cuts<S: Subject>(d: &mut Driver<S>, r: &mut Random, rounds: usize) {
+/// T, exactly the plan after the last write, every byte outside the table as before; "demand 3 lets
+/// the bank select register change as well".
+pub fn cuts<S: Subject>(d: &mut Driver<S>, r: &mut Random, chip: u8, rounds: usize) {
     for round in 0..rounds {
-        let draft = r.good_plan();
+        let draft = r.good_plan_of(chip);
         let plan = draft.plan();
         let old = old(d, r, plan, round);
         let mut script = [0; SCRIPT];
         let (refusal, writes) = d.script(plan, &mut script);
-        let length = if draft.chip == 1 { 13 } else { 24 };
-        hold((refusal, writes) == (0, length), "lengths 13 and 24", &draft);
+        let length = [13, 24, 0, 14][usize::from(chip) - 1];
+        hold((refusal, writes) == (0, length), "lengths 13, 24 and 14", &draft);
         hold(never_slower(d, plan, &old, &script[..2 * writes]), "never slower", &(&draft, &old));
         let registers = model::registers(draft.chip, draft.table).unwrap();
         let mut stage = old.clone();
@@ -227,6 +231,11 @@ pub fn cuts<S: Subject>(d: &mut Driver<S>, r: &mut Random, rounds: usize) {
                 hold(now == d.asked_of_plan_at_all(plan), "exactly the plan", &draft);
             }
             registers.iter().for_each(|at| image[*at] = old[*at]);
+            if chip == 4 && cut > 0 {
+                let bank = if draft.table < 5 { 3 } else { 4 };
+                hold(image[0xFF] == old[0xFF] & 0xF8 | bank, "the bank selected", &(&draft, cut));
+                image[0xFF] = old[0xFF];
+            }
             hold(image == old, "every byte outside the table as before", &(&draft, cut));
         }
     }
