@@ -63,10 +63,11 @@ impl Random {
     }
 
     pub fn byte(&mut self) -> u8 {
-        if self.once_in(3) {
-            BYTES[self.below(BYTES.len())]
+        let drawn = self.next() >> 16;
+        if drawn % 3 == 0 {
+            BYTES[(drawn / 3 % 6) as usize]
         } else {
-            (self.next() >> 24) as u8
+            (drawn >> 16) as u8
         }
     }
 
