@@ -11,10 +11,10 @@ pub struct Chip {
     pub identity: Option<&'static [(usize, u8, u8)]>,
     /// A fan table: where its registers stand in the image, in the order of the body.
     pub tables: &'static [&'static [usize]],
-    /// Where T1 to T4 and critical, or B1 to B4, stand in the body: the script's order.
+    /// Where T1 to T4 and critical, or B1 to B4, stand in the body.
     pub temperatures: &'static [usize],
-    /// Where duties or counts begin in the body, which they end.
-    pub speeds: usize,
+    /// Where FL1 to FL4 (P1 to P4), or C1 to C5, stand in the body.
+    pub speeds: &'static [usize],
     pub curve: Curve,
 }
 
@@ -61,7 +61,7 @@ static CHIPS: [Chip; 4] = [
             &[0xA0, 0xA1, 0xA2, 0xA3, 0xA4, 0xA5, 0xA6, 0xA7, 0xA8],
         ],
         temperatures: &[0, 1, 2, 3, 4],
-        speeds: 5,
+        speeds: &[5, 6, 7, 8],
         curve: Curve::Slope,
     },
     Chip {
@@ -76,7 +76,7 @@ static CHIPS: [Chip; 4] = [
             &[0xB0, 0xB1, 0xB2, 0xB3, 0xB4, 0xB5, 0xB6, 0xB7, 0xB8, 0xB9, 0xBA, 0xBB, 0xBC, 0xBD],
         ],
         temperatures: &[0, 1, 2, 3],
-        speeds: 4,
+        speeds: &[4, 5, 6, 7, 8, 9, 10, 11, 12, 13],
         curve: Curve::Counts,
     },
     Chip {
@@ -87,7 +87,7 @@ static CHIPS: [Chip; 4] = [
         // "Chip 3: none."
         tables: &[],
         temperatures: &[],
-        speeds: 0,
+        speeds: &[],
         curve: Curve::Counts,
     },
     Chip {
@@ -116,7 +116,7 @@ static CHIPS: [Chip; 4] = [
             &[0x415, 0x458, 0x459, 0x45A, 0x45B, 0x45C, 0x45D, 0x45E, 0x45F],
         ],
         temperatures: &[1, 2, 3, 4, 0],
-        speeds: 5,
+        speeds: &[5, 6, 7, 8],
         curve: Curve::Slope,
     },
 ];

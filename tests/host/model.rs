@@ -93,25 +93,26 @@ fn count(body: &[u8; BODY], k: usize) -> u16 {
 /// from FL1 to FL4 (else 7)." "Accepted if B1 > B2 > B3 > B4 (else 6) and counts never fall
 /// from C1 to C5 (else 7)." "6 and 7 also for a value its register's writable bits can't hold."
 fn order_refusal(table: Table, body: &[u8; BODY]) -> u32 {
-    let Table { chip, registers } = table;
+    let chip = table.chip;
     let (temperatures, speeds) = match chip.curve {
         Curve::Slope => {
             let t = |k: usize| body[chip.temperatures[k]] as i8;
+            let fl = |k: usize| body[chip.speeds[k]];
             let rising = (0..3).all(|k| t(k) < t(k + 1)) && t(3) <= t(4);
-            (rising, (chip.speeds..registers.len() - 1).all(|k| body[k] <= body[k + 1]))
+            (rising, (0..3).all(|k| fl(k) <= fl(k + 1)))
         }
         Curve::Counts => {
             let falling = (0..3).all(|k| body[k] > body[k + 1]);
             (falling, (0..4).all(|k| count(body, k) <= count(body, k + 1)))
         }
     };
-    let held = |k: usize| body[k] & !table.mask(k) == 0;
-    let temperatures = temperatures && chip.temperatures.iter().all(|k| held(*k));
-    let speeds = speeds && (chip.speeds..registers.len()).all(held);
-    match (temperatures, speeds) {
-        (false, _) => 6,
-        (true, false) => 7,
-        (true, true) => 0,
+    let held = |k: &usize| body[*k] & !table.mask(*k) == 0;
+    if !temperatures || !chip.temperatures.iter().all(held) {
+        6
+    } else if !speeds || !chip.speeds.iter().all(held) {
+        7
+    } else {
+        0
     }
 }
 
@@ -135,7 +136,7 @@ pub fn judge(plan: Plan) -> u32 {
 fn duty(chip: &Chip, body: &[u8; BODY], t: i8) -> u16 {
     let t = i32::from(t);
     let point = |k: usize| i32::from(body[chip.temperatures[k - 1]] as i8);
-    let level = |k: usize| i32::from(body[chip.speeds + k - 1]);
+    let level = |k: usize| i32::from(body[chip.speeds[k - 1]]);
     let critical = point(5);
     if t >= critical {
         return 255;
@@ -239,32 +240,29 @@ pub fn write_record(plan: Plan, out: &mut [u8]) -> (u32, usize) {
 /// Chip 4: "Its script goes as chip 1's, but selects a bank before the first write and again
 /// wherever the next register lies in another bank"; "a script writes the bank's number there, all
 /// other bits zero". Its tables lie in one bank each, so it has 14 writes.
-fn pairs(table: Table, body: &[u8; BODY]) -> ([u8; SCRIPT], usize) {
+fn pairs(table: Table, body: &[u8; BODY]) -> ([[u8; 2]; SCRIPT / 2], usize) {
     let Table { chip, registers } = table;
     let fastest = match chip.curve {
         Curve::Slope => 0xFF,
         Curve::Counts => 0x00,
     };
-    let mut script = [0; SCRIPT];
+    let mut script = [[0; 2]; SCRIPT / 2];
     let mut writes = 0;
     let mut put = |address: u8, byte: u8| {
-        script[2 * writes] = address;
-        script[2 * writes + 1] = byte;
+        script[writes] = [address, byte];
         writes += 1;
     };
-    let speeds = chip.speeds..registers.len();
-    let fast = speeds.clone().map(|k| (k, fastest));
-    let planned = chip.temperatures.iter().copied().chain(speeds).map(|k| (k, body[k]));
     let mut selected = None;
-    for (k, byte) in fast.chain(planned) {
-        let (bank, address) = ((registers[k] / 256) as u8, (registers[k] % 256) as u8);
-        if let Some(banks) = &chip.banks {
-            if selected != Some(bank) {
-                put(banks.select, bank);
-                selected = Some(bank);
+    for (order, byte) in [(chip.speeds, Some(fastest)), (chip.temperatures, None), (chip.speeds, None)] {
+        for k in order {
+            let [bank, address] = (registers[*k] as u16).to_be_bytes();
+            match &chip.banks {
+                Some(banks) if selected != Some(bank) => put(banks.select, bank),
+                _ => {}
             }
+            selected = Some(bank);
+            put(address, byte.unwrap_or(body[*k]));
         }
-        put(address, byte);
     }
     (script, writes)
 }
@@ -278,7 +276,9 @@ pub fn script(plan: Plan, out: &mut [u8]) -> (u32, usize) {
     if out.len() < 2 * writes {
         return (9, 0);
     }
-    out[..2 * writes].copy_from_slice(&script[..2 * writes]);
+    for (out, pair) in out.chunks_exact_mut(2).zip(&script[..writes]) {
+        out.copy_from_slice(pair);
+    }
     (0, writes)
 }
 
@@ -295,8 +295,8 @@ pub fn play(plan: Plan, image: &mut [u8], count: usize) -> (u32, usize) {
         return (refusal, 0);
     }
     let made = count.min(writes);
-    for pair in script[..2 * made].chunks(2) {
-        write(plan.chip, image, pair[0], pair[1]);
+    for [address, byte] in &script[..made] {
+        write(plan.chip, image, *address, *byte);
     }
     (0, made)
 }

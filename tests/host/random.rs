@@ -192,7 +192,7 @@ impl Random {
                 // Turning the top bit makes the order that of signed degrees.
                 let critical = points[3] + self.below(256 - usize::from(points[3])) as u8;
                 points.push(if self.once_in(4) { points[3] } else { critical });
-                body = vec![0; chip.speeds];
+                body = vec![0; 5];
                 for (at, t) in chip.temperatures.iter().zip(points) {
                     body[*at] = t ^ 0x80;
                 }
