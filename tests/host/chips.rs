@@ -93,7 +93,8 @@ static CHIPS: [Chip; 4] = [
     Chip {
         card: &NCT7904D,
         // Section 7.1.30: "7-3 Reserved. 2-0 BANK_SEL". Sections 7.1.12 to 7.1.14: "Data at Address
-        // 7Ah [7Bh, 7Ch] is available in all Bank Settings."
+        // 7Ah [7Bh, 7Ch] is available in all Bank Settings." FFh stands in "Bank 0, 1, 2, 3" there;
+        // it is seen in bank 4 too, or no script could leave that bank.
         banks: Some(Banks { select: 0xFF, bits: 0x07, everywhere: &[0x7A, 0x7B, 0x7C, 0xFF] }),
         // "Identity from its vendor, chip and device registers": 7.1.3 to 7.1.5 and 7.1.12 to
         // 7.1.14, "Default Value: 50", "C5", "5x".

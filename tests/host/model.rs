@@ -1,7 +1,7 @@
-//! A plain model of the base and chip 4, written from the rules paper, the request for chip 4 and
-//! its data sheet alone. Every function answers every input. 0 means accepted; any other number is the paper's refusal number.
-//! "A refusal returns its number and zero in every other part of the answer (a watch comes
-//! back unchanged), and each lent buffer holds what it held."
+//! A plain model of the base and of chip 4, written from the rules paper, the request for chip 4
+//! and the data sheets alone. Every function answers every input. 0 means accepted; any other
+//! number is the paper's refusal number. "A refusal returns its number and zero in every other part
+//! of the answer (a watch comes back unchanged), and each lent buffer holds what it held."
 
 use crate::chips::{chip_of, Chip, Curve};
 use crate::images::image_of;
@@ -67,22 +67,17 @@ pub fn registers(chip: u8, table: u8) -> Option<&'static [usize]> {
     table_of(chip, table).ok().map(|table| table.registers)
 }
 
-/// The table's own bytes, of which there are enough, and zeros behind them.
-fn own(table: Table, bytes: &[u8]) -> [u8; BODY] {
-    let mut body = [0; BODY];
-    let length = table.registers.len();
-    body[..length].copy_from_slice(&bytes[..length]);
-    body
-}
-
-/// The table of a plan and its own bytes. 3 and 4, then 5, "the record's body is cut short": a
-/// plan comes with such a body too.
+/// The table of a plan and its own bytes, zeros behind them. 3 and 4, then 5, "the record's body is
+/// cut short": a plan comes with such a body too.
 fn whole(plan: Plan) -> Result<(Table, [u8; BODY]), u32> {
     let table = table_of(plan.chip, plan.table)?;
-    if plan.body.len() < table.registers.len() {
+    let length = table.registers.len();
+    if plan.body.len() < length {
         return Err(5);
     }
-    Ok((table, own(table, plan.body)))
+    let mut body = [0; BODY];
+    body[..length].copy_from_slice(&plan.body[..length]);
+    Ok((table, body))
 }
 
 fn count(body: &[u8; BODY], k: usize) -> u16 {

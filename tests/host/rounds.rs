@@ -224,8 +224,8 @@ pub fn cuts<S: Subject>(d: &mut Driver<S>, r: &mut Random, chip: u8, rounds: usi
                 d.write(draft.chip, &mut stage, script[2 * cut - 2], script[2 * cut - 1]);
             }
             hold(image == stage, "the first writes of the script", &(&draft, cut));
-            let table: Vec<u8> = registers.iter().map(|at| image[*at]).collect();
             if cut == writes {
+                let table: Vec<u8> = registers.iter().map(|at| image[*at]).collect();
                 hold(table == draft.body, "the plan's bytes", &draft);
                 let now = d.asked_of_image_at_all(draft.chip, draft.table, &image);
                 hold(now == d.asked_of_plan_at_all(plan), "exactly the plan", &draft);
