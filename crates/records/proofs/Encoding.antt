@@ -9,7 +9,7 @@ use lib.ListN.{length, getD, take, length-append}
 use lib.Seq.{take-append-add}
 use Rattle.refusal.specs.Checks.{first}
 use Rattle.pages.specs.declared.Chip.{Chip}
-use Rattle.pages.specs.declared.Chip.the-variants.{Nct7802y, F75373s}
+use Rattle.pages.specs.declared.Chip.the-variants.{Nct7802y, F75373s, Nct7904d}
 use Rattle.pages.specs.declared.Named.{Named}
 use Rattle.pages.specs.declared.Named.the-variants.{Known, Unknown}
 use Rattle.pages.specs.declared.Shape.{Shape}
@@ -28,15 +28,15 @@ use Rattle.plans.specs.Plans.{fits, temperaturesPass, speedsPass}
 use Rattle.plans.specs.Contracts.{planChecks}
 use Rattle.records.specs.Records.{header, bodyLength, recordLength, recordBody, recordOf, encoded}
 
--- "9 bytes for chip 1, 14 for chip 2"
-pub body-lengths : (bodyLength Nct7802y ≡ 9) × (bodyLength F75373s ≡ 14)
+-- "9 bytes for chip 1, 14 for chip 2", and 9 for chip 4
+pub body-lengths : (bodyLength Nct7802y ≡ 9) × (bodyLength F75373s ≡ 14) × (bodyLength Nct7904d ≡ 9)
 unfolding sheetOf
-body-lengths = (refl, refl)
+body-lengths = (refl, refl, refl)
 
 -- "the bytes used, 13 or 18"
-pub record-lengths : (recordLength Nct7802y ≡ 13) × (recordLength F75373s ≡ 18)
+pub record-lengths : (recordLength Nct7802y ≡ 13) × (recordLength F75373s ≡ 18) × (recordLength Nct7904d ≡ 13)
 unfolding sheetOf
-record-lengths = (refl, refl)
+record-lengths = (refl, refl, refl)
 
 -- as many as each of the chip's tables has registers ..
 pub body-of-table : (chip : Chip) (table : ℕ) → hasTable chip table ≡ true
