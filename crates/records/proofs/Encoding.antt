@@ -24,7 +24,7 @@ use Rattle.curves.specs.Planned.{planned, temperaturesInOrder, speedsInOrder}
 use Rattle.curves.specs.Values.{Sized}
 use Rattle.bodies.specs.Bodies.{ownOf}
 use Rattle.bodies.proofs.Laws.{body-length, column-begins, own-chip, own-table, own-curve, own-temperatures, own-speeds}
-use Rattle.plans.specs.Plans.{fits, temperaturesPass, speedsPass}
+use Rattle.plans.specs.Plans.{holdable, temperaturesPass, speedsPass}
 use Rattle.plans.specs.Contracts.{planChecks}
 use Rattle.records.specs.Records.{header, bodyLength, recordLength, recordBody, recordOf, encoded}
 
@@ -102,17 +102,17 @@ module _ (chip : Chip) (plan : Plan) where
   temperatures-judged : temperaturesPass chip back ≡ temperaturesPass chip plan
   unfolding temperaturesPass
   temperatures-judged =
-      ap (λ (t : ℕ). temperaturesInOrder (shapeOf chip t) back && fits chip (tableOf chip t .settings) (planned (shapeOf chip t) back .settings))
+      ap (λ (t : ℕ). temperaturesInOrder (shapeOf chip t) back && holdable chip (tableOf chip t .settings) (planned (shapeOf chip t) back .settings))
       (own-table shape plan)
-      ∙ ap₂ (λ (order : Bool) (values : List ℕ). order && fits chip (tableOf chip (plan .table) .settings) values)
+      ∙ ap₂ (λ (order : Bool) (values : List ℕ). order && holdable chip (tableOf chip (plan .table) .settings) values)
       (own-temperatures shape plan) (λ i. own-curve shape plan i .settings)
 
   speeds-judged : speedsPass chip back ≡ speedsPass chip plan
   unfolding speedsPass
   speeds-judged =
-      ap (λ (t : ℕ). speedsInOrder (shapeOf chip t) back && fits chip (tableOf chip t .speeds) (planned (shapeOf chip t) back .speeds))
+      ap (λ (t : ℕ). speedsInOrder (shapeOf chip t) back && holdable chip (tableOf chip t .speeds) (planned (shapeOf chip t) back .speeds))
       (own-table shape plan)
-      ∙ ap₂ (λ (order : Bool) (values : List ℕ). order && fits chip (tableOf chip (plan .table) .speeds) values)
+      ∙ ap₂ (λ (order : Bool) (values : List ℕ). order && holdable chip (tableOf chip (plan .table) .speeds) values)
       (own-speeds shape plan) (λ i. own-curve shape plan i .speeds)
 
   pub own-judged : chipOf (plan .chip) ≡ Known chip → first (planChecks back) ≡ first (planChecks plan)
