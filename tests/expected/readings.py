@@ -101,7 +101,7 @@ def voltages():
 
 
 def right_steps(high, low):
-    """Of the NCT7904D: "8 times the signed high byte plus the low byte's bits 2 to 0, the other low bits ignored"."""
+    """Of the NCT7904D: 8 times the signed high byte plus the low byte's bits 2 to 0; the other low bits are ignored."""
     return 8 * (high - 256 if high > 127 else high) + low % 8
 
 
