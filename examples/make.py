@@ -9,10 +9,10 @@ import sys
 FOLDER = sys.argv[1] if len(sys.argv) > 1 else os.path.dirname(os.path.abspath(__file__))
 MARK = [0x43, 0x50]
 
-# Where each chip's fan tables begin. Chip 4's stand in banks: the bank, critical, and where T1 to T4 and P1 to P4 begin.
+# Where the fan tables of chips 1 and 2 begin. The registers of one stand in a row, settings first.
 BASES = {1: {1: 0x80, 2: 0x90, 3: 0xA0}, 2: {1: 0xA0, 2: 0xB0}}
-BANKS = {n: (3, 0x20 + n - 1, 0x30 + 8 * (n - 1)) for n in (1, 2, 3, 4)}
-BANKS.update({n: (4, 0x10 + n - 5, 0x30 + 8 * (n - 5)) for n in (5, 6, 7, 8, 9, 10)})
+
+# Where chip 4 selects a bank.
 SELECT = 0xFF
 
 
@@ -21,28 +21,32 @@ def halves(counts):
 
 
 def record(chip, table, settings, speeds):
-    """Chip 1: T1 to T4 and critical, then FL1 to FL4. Chip 2: B1 to B4, then C1 to C5, high byte first. Chip 4: critical, T1 to T4, P1 to P4."""
+    """Chip 1: T1 to T4 and critical, then FL1 to FL4. Chip 2: B1 to B4, then C1 to C5, high byte first. Chip 4: critical before T1 to T4."""
     if chip == 4:
         settings = settings[4:] + settings[:4]
     body = settings + (halves(speeds) if chip == 2 else speeds)
     return MARK + [chip, table] + body
 
 
-def registers(chip, table, settings, speeds):
-    """What selects a bank, and the addresses of the settings and of the speeds."""
-    if chip == 4:
-        bank, critical, first = BANKS[table]
-        return [(SELECT, bank)], [*range(first, first + 4), critical], range(first + 4, first + 8)
-    base = BASES[chip][table]
-    first = base + len(settings)
-    return [], range(base, first), range(first, first + len(speeds))
+def places(chip, table):
+    """The bank, and where the settings and the speeds stand. Chip 4: tables 1 to 4 in bank 3, 5 to 10 in bank 4, critical apart from the points."""
+    if chip != 4:
+        base = BASES[chip][table]
+        first = base + (5 if chip == 1 else 4)
+        return None, range(base, first), range(first, first + (4 if chip == 1 else 10))
+    bank, lowest, at = (3, 0x20, table - 1) if table <= 4 else (4, 0x10, table - 5)
+    first = 0x30 + 8 * at
+    return bank, [first, first + 1, first + 2, first + 3, lowest + at], range(first + 4, first + 8)
 
 
 def text(number, chip, table, settings, speeds):
-    """Select a bank where there is more than one, raise every speed, move every setting, settle every speed."""
+    """Select the bank where there are some; raise every speed, move every setting, settle every speed."""
     full, speeds = (0x00, halves(speeds)) if chip == 2 else (0xFF, speeds)
-    writes, of_settings, of_speeds = registers(chip, table, settings, speeds)
-    writes = writes + [(at, full) for at in of_speeds] + list(zip(of_settings, settings)) + list(zip(of_speeds, speeds))
+    bank, moved, raised = places(chip, table)
+    writes = [] if bank is None else [(SELECT, bank)]
+    writes += [(address, full) for address in raised]
+    writes += list(zip(moved, settings))
+    writes += list(zip(raised, speeds))
     lines = ['plan %d chip %d table %d writes %d' % (number, chip, table, len(writes))]
     return lines + ['%02X %02X' % write for write in writes]
 
@@ -70,24 +74,20 @@ def refused(name, plans, number, bad):
     write(name, given + bad, lines + ['plan %d refused %d' % (len(plans) + 1, number)])
 
 
-# The plan of the rules paper, and one for each other table.
+# The plan of the rules paper, one for each other table of chips 1 and 2, and one for each bank of chip 4 that has tables.
 PAPER = (1, 3, [30, 40, 50, 55, 60], [140, 170, 200, 230])
 COLD = (1, 1, [256 - 20, 256 - 5, 0, 10, 127], [0, 0, 128, 255])
 MILD = (1, 2, [20, 35, 50, 65, 65], [60, 60, 60, 60])
 FAN_1 = (2, 1, [60, 50, 40, 30], [0x01FF, 0x0200, 0x0300, 0x0800, 0xFFFF])
 FAN_2 = (2, 2, [80, 70, 45, 0], [0, 0, 1000, 1000, 65535])
-
-# Chip 4's power-on curve, and one with a temperature below zero: T1 to T4 and critical, P1 to P4. Each of its ten tables gets one that is its own.
-LIKE_POWER_ON = (4, 1, [25, 35, 45, 55, 90], [140, 170, 200, 230])
-BELOW_ZERO = (4, 10, [256 - 20, 0, 20, 50, 127], [0, 64, 128, 255])
-TEN = [(4, n, [20 + n, 30 + n, 40 + n, 50 + n, 80 + n], [10 * n, 10 * n + 50, 10 * n + 100, 10 * n + 150]) for n in range(1, 11)]
+BANK_3 = (4, 1, [25, 35, 45, 55, 90], [140, 170, 200, 230])
+BANK_4 = (4, 10, [256 - 20, 0, 20, 50, 127], [0, 64, 128, 255])
 
 whole('chip-1', [PAPER])
 whole('chip-2', [FAN_1])
-whole('chip-4', [LIKE_POWER_ON])
-whole('chip-4-table-10', [BELOW_ZERO])
-whole('chip-4-tables', TEN)
-whole('several', [COLD, FAN_2, MILD, PAPER, FAN_1])
+whole('chip-4', [BANK_3])
+whole('banks', [BANK_4, BANK_3] + [(4, table) + MILD[2:] for table in range(2, 10)])
+whole('several', [COLD, FAN_2, MILD, PAPER, FAN_1, BANK_4])
 whole('empty', [])
 
 refused('refused-1', [PAPER], 1, MARK + [1])
@@ -103,5 +103,5 @@ FULL = [FAN_1] * 216 + [PAPER] * 16
 whole('full', FULL)
 write('too-long', accepted(FULL)[0] + [0x43], ['input too long'])
 
-# The longest text of all: 226 records of 18 bytes and 2 of 13 leave 2 bytes, and the longest that 13 bytes give is that of table 10 of chip 4.
-refused('longest-text', [FAN_1] * 226 + [BELOW_ZERO] * 2, 1, MARK)
+# The longest text of all: 226 records of 18 bytes and 2 of 13 leave 2 bytes. Of those of 13 bytes table 10 of chip 4 has the longest lines.
+refused('longest-text', [FAN_1] * 226 + [BANK_4] * 2, 1, MARK)

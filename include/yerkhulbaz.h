@@ -1,7 +1,7 @@
 /*
  * yerkhulbaz: register images, readings, the alarm watch, identity, cooling plans and scripts for
- * three hardware monitors. Chip 1 is the Nuvoton NCT7802Y, chip 2 the Fintek F75373S, chip 3 the
- * onsemi NCT80.
+ * four hardware monitors. Chip 1 is the Nuvoton NCT7802Y, chip 2 the Fintek F75373S, chip 3 the
+ * onsemi NCT80, chip 4 the Nuvoton NCT7904D.
  *
  * The library does no input or output, allocates nothing and keeps nothing between two calls: it
  * works on buffers that the caller lends for the time of the call. Link libclib.a (x86-64 Linux).
@@ -24,10 +24,21 @@
  * buffer of the same call: to play a table of an image onto the same image, copy the table's bytes
  * out first.
  *
- * AN IMAGE is the 256 register bytes of one chip, indexed by address (chip 1: bank 0). Any other
- * length is refused with 8. Functions work on the image only; the caller moves bytes between the
- * image and the chip. On chip 1 the caller first makes sure of bank 0 (bit 0 of 00h is zero), which
- * identity does not ask for: with bank 1 selected the same addresses are other registers.
+ * AN IMAGE is the 256 register bytes of one chip, indexed by address (chip 1: bank 0), or the 1,280
+ * of chip 4, five banks of 256 one after the other: bank b's address a is image[256 * b + a]. Any
+ * other length is refused with 8. Functions work on the image only; the caller moves bytes between
+ * the image and the chip. On chip 1 the caller first makes sure of bank 0 (bit 0 of 00h is zero),
+ * which identity does not ask for: with bank 1 selected the same addresses are other registers.
+ *
+ * BANKS are chip 4's. yk_write and yk_read take an address, as the bus does, and land in the bank
+ * that is selected: bits 2 to 0 of the bank select register, image[0xFF], whatever its other bits
+ * hold. Four registers are seen in every bank and stand in bank 0's page only: 7Ah, 7Bh, 7Ch and
+ * the bank select register FFh; in the pages of banks 1 to 4 nothing reaches the bytes of these
+ * addresses. Codes 5 to 7 select a bank that is not there: the four registers answer, elsewhere a
+ * write changes nothing and a read gives 0. A bank is selected by a write, as bank 3 by
+ * yk_write(4, image, YK_IMAGE_CHIP_4, 0xFF, 3). All other calls that take an image find each
+ * register in its own bank, whichever is selected. On a bus the caller must select bank 0 before
+ * 0Dh to 0Fh are read; README.md has what it takes to confirm a chip.
  *
  * A FAN TABLE works only while the chip is in its curve mode. The mode bits are the caller's: no
  * plan and no script has them.
@@ -38,9 +49,13 @@
  *   chip 2, tables 1 and 2, 14 bytes: B1 B2 B3 B4 then C1 to C5, high byte first
  *       temperatures are degrees 0 to 255, counts 0 to 65,535; in the image from A0h, B0h
  *   chip 3 has no fan table.
+ *   chip 4, tables 1 to 10, 9 bytes:  critical T1 T2 T3 T4 P1 P2 P3 P4
+ *       temperatures are signed degrees, duties 0 to 255; critical leads, as its register does; in
+ *       the image table n from 1 to 4 has it at 320h + n - 1, T1 to P4 from 330h + 8 (n - 1) on,
+ *       table n from 5 to 10 at 410h + n - 5, T1 to P4 from 430h + 8 (n - 5) on
  * A shorter body is refused with 5; bytes past these are ignored, as those behind a record are.
  * A plan is in order when
- *   chip 1: T1 < T2 < T3 < T4, T4 at most critical (else 6); FL1 to FL4 never fall (else 7)
+ *   chips 1 and 4: T1 < T2 < T3 < T4, T4 at most critical (else 6); duties never fall (else 7)
  *   chip 2: B1 > B2 > B3 > B4 (else 6); C1 to C5 never fall (else 7).
  * More duty is faster; a smaller count is faster, 0000h is full speed and FFFFh is off.
  */
@@ -59,12 +74,12 @@ enum {
     YK_ACCEPTED = 0,
     YK_REFUSED_HEADER = 1,       /* a plan record has fewer than 4 bytes left */
     YK_REFUSED_MARK = 2,         /* its mark is not 43h 50h */
-    YK_REFUSED_CHIP = 3,         /* the chip number is not 1, 2 or 3 */
+    YK_REFUSED_CHIP = 3,         /* the chip number is not 1, 2, 3 or 4 */
     YK_REFUSED_TABLE = 4,        /* the chip has no such fan table */
     YK_REFUSED_BODY = 5,         /* the body of a record or plan is cut short */
     YK_REFUSED_TEMPERATURES = 6, /* temperatures of the plan are out of order */
     YK_REFUSED_SPEEDS = 7,       /* duties or counts of the plan are out of order */
-    YK_REFUSED_IMAGE = 8,        /* a register image is not 256 bytes long */
+    YK_REFUSED_IMAGE = 8,        /* a register image is not 256 bytes long (chip 4: 1,280) */
     YK_REFUSED_OUTPUT = 9,       /* the output buffer is shorter than the result */
     YK_REFUSED_IDENTITY = 10,    /* identity is not confirmed (for chip 3 always) */
     YK_REFUSED_WIDTH = 11,       /* the temperature width is not 8, 9, 11 or 12 */
@@ -75,15 +90,17 @@ enum {
 enum { YK_DEFAULT = 0, YK_ONE_TIME = 1, YK_COMPARATOR = 2 };
 
 /* Chips. */
-enum { YK_NCT7802Y = 1, YK_F75373S = 2, YK_NCT80 = 3 };
+enum { YK_NCT7802Y = 1, YK_F75373S = 2, YK_NCT80 = 3, YK_NCT7904D = 4 };
 
 /* Sizes in bytes. A buffer of the size named MAX is never refused with 9. */
 enum {
-    YK_IMAGE = 256,
+    YK_IMAGE = 256,        /* chips 1, 2 and 3 */
+    YK_IMAGE_CHIP_4 = 1280,
     YK_BODY_CHIP_1 = 9,
     YK_BODY_CHIP_2 = 14,
-    YK_RECORD_MAX = 18,    /* yk_write_record: 13 for chip 1, 18 for chip 2 */
-    YK_SCRIPT_MAX = 48,    /* yk_script: 26 for chip 1, 48 for chip 2 */
+    YK_BODY_CHIP_4 = 9,
+    YK_RECORD_MAX = 18,    /* yk_write_record: 13 for chips 1 and 4, 18 for chip 2 */
+    YK_SCRIPT_MAX = 48,    /* yk_script: 26 for chip 1, 48 for chip 2, 28 for chip 4 */
     YK_INPUT_MAX = 4096,   /* yk_translate: a longer input is `input too long` */
     YK_TEXT_MAX = 40979    /* yk_translate: no input has a longer text */
 };
@@ -147,26 +164,30 @@ static inline uint8_t yk_facts(uint64_t answer) {
  * Writes one byte as the chip would take it: writable bits are replaced, write-one-to-clear bits
  * are cleared where byte has a 1, the other bits keep. A register that can't be written keeps
  * its byte, and the call is accepted all the same.
- * Refusals: 3, 8. Value: 0. Afterwards: only image[address] may have changed.
+ * Refusals: 3, 8. Value: 0. Afterwards: only the byte at which the write lands may have changed:
+ * image[address], or of chip 4 that address in the bank selected before the call (see BANKS).
  */
 uint64_t yk_write(uint8_t chip, uint8_t *image, size_t image_length, uint8_t address, uint8_t byte);
 
 /*
- * Reads one byte; nothing changes, nothing is cleared by reading.
+ * Reads one byte: image[address], or of chip 4 that address in the bank selected (see BANKS).
+ * Nothing changes, nothing is cleared by reading.
  * Refusals: 3, 8. Value: the byte, (uint8_t)yk_value(answer).
  */
 uint64_t yk_read(uint8_t chip, const uint8_t *image, size_t image_length, uint8_t address);
 
 /*
- * Fills the image with the chip's power-on bytes.
- * Refusals: 3, 8. Value: 0. Afterwards: all 256 bytes are those of power-on.
+ * Fills the image with the chip's power-on bytes; of chip 4 all banks, and bank 0 is selected.
+ * Refusals: 3, 8. Value: 0. Afterwards: all 256 bytes, or 1,280, are those of power-on.
  */
 uint64_t yk_reset(uint8_t chip, uint8_t *image, size_t image_length);
 
 /*
  * Whether the image is that of the chip, by its identity registers. Chip 1: FDh is 50h, FEh is
  * C3h, the upper four bits of FFh are 2, bits 4 to 0 of 05h and bits 5 to 0 of 08h are zero.
- * Chip 2: 5Ah, 5Bh, 5Dh, 5Eh are 02h, 04h, 19h, 34h. Chip 3 is never confirmed.
+ * Chip 2: 5Ah, 5Bh, 5Dh, 5Eh are 02h, 04h, 19h, 34h. Chip 3 is never confirmed. Chip 4: 0Dh and 7Ah
+ * are 50h, 0Eh and 7Bh are C5h, the upper four bits of 0Fh and 7Ch are 5, each in bank 0's page,
+ * whichever bank is selected.
  * Refusals: 3, 8, 10. Value: 0; accepted means confirmed.
  */
 uint64_t yk_identity(uint8_t chip, const uint8_t *image, size_t image_length);
@@ -273,16 +294,17 @@ uint64_t yk_write_record(uint8_t chip, uint8_t table, const uint8_t *body, size_
 /* ---- What is asked of a fan */
 
 /*
- * The speed that a plan asks for at temperature t, in order or not: the duty (0 to 255) for chip
- * 1, the count (0 to 65,535) for chip 2. t is one byte, signed for chip 1 (pass (uint8_t)degrees)
- * and unsigned for chip 2.
+ * The speed that a plan asks for at temperature t, in order or not: the duty (0 to 255) for chips 1
+ * and 4, the count (0 to 65,535) for chip 2. t is one byte, signed for chips 1 and 4 (pass
+ * (uint8_t)degrees) and unsigned for chip 2.
  * Refusals: 3, 4, 5. Value: the duty or count.
  */
 uint64_t yk_asked_of_plan(uint8_t chip, uint8_t table, const uint8_t *body, size_t body_length,
                           uint8_t t);
 
 /*
- * The same of the table's bytes that stand in an image. The chip's identity is not looked at.
+ * The same of the table's bytes that stand in an image, of chip 4 in the table's own bank,
+ * whichever is selected. The chip's identity is not looked at.
  * Refusals: 3, 4, 8. Value: the duty or count.
  */
 uint64_t yk_asked_of_image(uint8_t chip, uint8_t table, const uint8_t *image, size_t image_length,
@@ -292,11 +314,14 @@ uint64_t yk_asked_of_image(uint8_t chip, uint8_t table, const uint8_t *image, si
 
 /*
  * Writes a plan's script: pairs of address and byte, to be written to the chip in this order.
- * First every duty goes to FFh (chip 1) or every count byte to 00h (chip 2), then the
- * temperatures are written, then the speeds as planned. So a table that is loaded in part never
- * asks for less than the slower of the old table and the plan.
- * Refusals: 3, 4, 5, 6, 7, 9. Value: the number of writes, 13 or 24. Afterwards: write k (from 0)
- * is out[2 * k], out[2 * k + 1]; the bytes of out past the script are as they were.
+ * First every duty goes to FFh (chips 1 and 4) or every count byte to 00h (chip 2), then the
+ * temperatures are written, critical last, then the speeds as planned. So a table that is loaded in
+ * part never asks for less than the slower of the old table and the plan. Of chip 4 the select of
+ * the table's bank comes before all of these, FFh and 3 or 4: whichever bank was selected, the
+ * writes land in the table's, and the script leaves that bank selected.
+ * Refusals: 3, 4, 5, 6, 7, 9. Value: the number of writes, 13 (chip 1), 24 (chip 2) or 14 (chip 4).
+ * Afterwards: write k (from 0) is out[2 * k], out[2 * k + 1]; the bytes of out past the script are
+ * as they were.
  */
 uint64_t yk_script(uint8_t chip, uint8_t table, const uint8_t *body, size_t body_length,
                    uint8_t *out, size_t out_length);
@@ -304,9 +329,11 @@ uint64_t yk_script(uint8_t chip, uint8_t table, const uint8_t *body, size_t body
 /*
  * Plays the first count writes of a plan's script on an image, as yk_write would make them; a
  * count above the script's length means all. Identity is confirmed once, before the first write.
- * Every play begins with the script's first write: after a cut, play the whole script again.
+ * Every play begins with the script's first write: after a cut, play the whole script again. Of
+ * chip 4 the select counts as a write.
  * Refusals: 3, 4, 5, 6, 7, 8, 10. Value: the number of writes made. Afterwards: outside of the
- * plan's table the image is as it was; after a whole script the table holds the plan's body.
+ * plan's table and, of chip 4, the bank select register the image is as it was; after a whole
+ * script the table holds the plan's body.
  */
 uint64_t yk_play(uint8_t chip, uint8_t table, const uint8_t *body, size_t body_length,
                  uint8_t *image, size_t image_length, size_t count);

@@ -101,7 +101,7 @@ def voltages():
 
 
 def right_steps(high, low):
-    """Of the NCT7904D: "8 times the signed high byte plus the low byte's bits 2 to 0, the other low bits ignored"."""
+    """Of the NCT7904D: 8 times the signed high byte plus the low byte's bits 2 to 0; the other low bits are ignored."""
     return 8 * (high - 256 if high > 127 else high) + low % 8
 
 
@@ -122,7 +122,7 @@ def right_from_steps(steps):
 
 
 def right_aligned():
-    """The request's figures, then section 6.3 of the sheet, in degrees, where a figure hasn't had the row."""
+    """Some figures, then section 6.3 of the sheet, in degrees, where a figure hasn't had the row."""
     for high, low, steps in ((0xE6, 0x02, -206), (0x80, 0x00, -1024), (0x7F, 0x07, 1023), (0xFF, 0x07, -1)):
         right_from_bytes(high, low, steps)
     assert right_steps(0xE6, 0x02) == -25.750 * 8 and right_steps(0x7F, 0x07) == 127.875 * 8

@@ -1,7 +1,7 @@
 //! The benchmark: medians over repeated runs of library and model in turn, and their ratio. Both
 //! must add up to the same sums.
 
-use crate::model::{Plan, IMAGE, INPUT, SCRIPT};
+use crate::model::{Plan, INPUT, SCRIPT};
 use crate::random::{Draft, Random};
 use crate::subject::{Model, Subject};
 use std::time::Instant;
@@ -9,8 +9,12 @@ use std::time::Instant;
 const RUNS: usize = 41;
 const WORK: usize = 64;
 
+/// The chips whose calls are timed together.
+type Chips = &'static [u8];
+
 /// What every run works on.
 struct Ground {
+    chips: Chips,
     plans: Vec<Draft>,
     records: Vec<Vec<u8>>,
     images: Vec<Vec<u8>>,
@@ -19,9 +23,9 @@ struct Ground {
     text: Vec<u8>,
 }
 
-fn ground(seed: u64) -> Ground {
+fn ground(seed: u64, chips: Chips) -> Ground {
     let r = &mut Random::new(seed);
-    let plans: Vec<Draft> = (0..WORK).map(|_| r.good_plan()).collect();
+    let plans: Vec<Draft> = (0..WORK).map(|k| r.good_plan_of(chips[k % chips.len()])).collect();
     // 160 records of chip 1 and 112 of chip 2 are exactly 4,096 bytes.
     let mut input = Vec::new();
     for k in 0..272 {
@@ -30,6 +34,7 @@ fn ground(seed: u64) -> Ground {
     }
     assert_eq!(input.len(), INPUT);
     Ground {
+        chips,
         records: plans.iter().map(|plan| plan.record()).collect(),
         images: plans.iter().map(|plan| r.confirmed(plan.chip)).collect(),
         writes: (0..WORK).map(|_| (r.byte(), r.byte())).collect(),
@@ -55,8 +60,8 @@ fn writes<S: Subject>(s: &S, g: &mut Ground) -> u64 {
 
 fn identities<S: Subject>(s: &S, g: &mut Ground) -> u64 {
     let mut sum = 0;
-    for chip in 1..=2 {
-        sum += g.images.iter().map(|image| u64::from(s.identity(chip, image))).sum::<u64>();
+    for chip in g.chips {
+        sum += g.images.iter().map(|image| u64::from(s.identity(*chip, image))).sum::<u64>();
     }
     sum
 }
@@ -99,8 +104,7 @@ fn texts<S: Subject>(s: &S, g: &mut Ground) -> u64 {
 }
 
 /// Nanoseconds per call of one run of `times` jobs, and its sum.
-fn run<S: Subject>(s: &S, job: Job<S>, seed: u64, times: usize, calls: usize) -> (f64, u64) {
-    let mut ground = ground(seed);
+fn run<S: Subject>(s: &S, job: Job<S>, mut ground: Ground, times: usize, calls: usize) -> (f64, u64) {
     // SAFETY: a volatile read of a local. It hides the job, so that no work moves out of the loop.
     let job = unsafe { std::ptr::read_volatile(&job) };
     let mut sum = job(s, &mut ground);
@@ -116,11 +120,13 @@ fn median(mut times: Vec<f64>) -> f64 {
     times[times.len() / 2]
 }
 
-fn compare<S: Subject>(name: &str, s: &S, jobs: (Job<S>, Job<Model>), seed: u64, times: usize, calls: usize) {
+fn compare<S: Subject>(
+    name: &str, s: &S, jobs: (Job<S>, Job<Model>), (seed, chips): (u64, Chips), times: usize, calls: usize,
+) {
     let (mut subject, mut model) = (Vec::new(), Vec::new());
     for _ in 0..RUNS {
-        let ours = run(s, jobs.0, seed, times, calls);
-        let theirs = run(&Model, jobs.1, seed, times, calls);
+        let ours = run(s, jobs.0, ground(seed, chips), times, calls);
+        let theirs = run(&Model, jobs.1, ground(seed, chips), times, calls);
         assert_eq!(ours.1, theirs.1, "{}: library and model differ", name);
         subject.push(ours.0);
         model.push(theirs.0);
@@ -131,12 +137,16 @@ fn compare<S: Subject>(name: &str, s: &S, jobs: (Job<S>, Job<Model>), seed: u64,
 
 /// Prints a line per function: library and model in nanoseconds per call, and their ratio.
 pub fn all<S: Subject>(s: &S, seed: u64) {
-    assert_eq!(ground(seed).images[0].len(), IMAGE);
     println!("{:22} {:>12} {:>12} {:>8}", "median ns per call", "library", "model", "ratio");
-    compare("write", s, (writes, writes), seed, 50, WORK * WORK);
-    compare("identity", s, (identities, identities), seed, 500, 2 * WORK);
-    compare("record read", s, (records, records), seed, 500, WORK);
-    compare("script", s, (scripts, scripts), seed, 500, WORK);
-    compare("play", s, (plays, plays), seed, 500, WORK);
-    compare("translate 4,096 bytes", s, (texts, texts), seed, 20, 1);
+    let grounds: [(&str, Chips); 2] = [("", &[1, 2]), (", chip 4", &[4])];
+    for (whose, chips) in grounds {
+        let name = |what: &str| format!("{}{}", what, whose);
+        let from = (seed, chips);
+        compare(&name("write"), s, (writes, writes), from, 50, WORK * WORK);
+        compare(&name("identity"), s, (identities, identities), from, 500, chips.len() * WORK);
+        compare(&name("record read"), s, (records, records), from, 500, WORK);
+        compare(&name("script"), s, (scripts, scripts), from, 500, WORK);
+        compare(&name("play"), s, (plays, plays), from, 500, WORK);
+    }
+    compare("translate 4,096 bytes", s, (texts, texts), (seed, &[1, 2]), 20, 1);
 }

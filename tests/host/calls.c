@@ -1,5 +1,5 @@
-/* Every function once or more through include/yerkhulbaz.h, at figures of the rules paper: the
- * prototypes are those of the library. */
+/* Every function once or more through include/yerkhulbaz.h, at figures of the rules paper and of
+ * chip 4: the prototypes are those of the library. */
 #include "yerkhulbaz.h"
 
 #include <stdio.h>
@@ -26,8 +26,77 @@ static const char text[] = "plan 1 chip 1 table 3 writes 13\n"
                            "A5 FF\nA6 FF\nA7 FF\nA8 FF\nA0 1E\nA1 28\nA2 32\nA3 37\nA4 3C\n"
                            "A5 8C\nA6 AA\nA7 C8\nA8 E6\nend 1\n";
 
+/* A plan of chip 4, critical first, and its text. */
+enum { IMAGE_4 = 1280, BODY_4 = 9 };
+static const uint8_t record_4[13] = {0x43, 0x50, 0x04, 0x0A, 0x7F, 0xEC, 0x00,
+                                     0x14, 0x32, 0x00, 0x40, 0x80, 0xFF};
+static const char text_4[] = "plan 1 chip 4 table 10 writes 14\n"
+                             "FF 04\n5C FF\n5D FF\n5E FF\n5F FF\n58 EC\n59 00\n5A 14\n5B 32\n"
+                             "15 7F\n5C 00\n5D 40\n5E 80\n5F FF\nend 1\n";
+
 /* 81 degrees, no 12-bit step count, 75 degrees, a step below. */
 static const int16_t samples[4] = {1296, 2048, 1200, 1199};
+
+/* Every function that takes a chip, with chip 4, and those of its readings. */
+static void chip_4(void) {
+    static uint8_t image[IMAGE_4], out[IMAGE_4];
+    const uint8_t *body = record_4 + 4;
+    size_t length = sizeof text_4 - 1;
+
+    /* After a reset: banks 3, 6 (which there is not) and 4, and what is seen in every bank. */
+    same("reset of chip 4", yk_reset(4, image, IMAGE_4), 0);
+    same("its identity", yk_identity(4, image, IMAGE_4), 0);
+    same("a short image", yk_identity(4, image, YK_IMAGE), YK_REFUSED_IMAGE);
+    same("a long image of chip 1", yk_identity(1, image, IMAGE_4), YK_REFUSED_IMAGE);
+    same("chip 5", yk_identity(5, image, IMAGE_4), YK_REFUSED_CHIP);
+    same("bank 3", yk_write(4, image, IMAGE_4, 0xFF, 0x83), 0);
+    same("FFh", yk_read(4, image, IMAGE_4, 0xFF), packed(0, 0x03));
+    same("20h in bank 3", yk_read(4, image, IMAGE_4, 0x20), packed(0, 0x5A));
+    same("7Ah", yk_read(4, image, IMAGE_4, 0x7A), packed(0, 0x50));
+    same("a write", yk_write(4, image, IMAGE_4, 0x20, 0x55), 0);
+    same("where it lands", image[0x320], 0x55);
+    same("bank 6", yk_write(4, image, IMAGE_4, 0xFF, 0x06), 0);
+    same("20h in bank 6", yk_read(4, image, IMAGE_4, 0x20), 0);
+    same("7Bh", yk_read(4, image, IMAGE_4, 0x7B), packed(0, 0xC5));
+    same("a write to nothing", yk_write(4, image, IMAGE_4, 0x20, 0x11), 0);
+    same("bank 4", yk_write(4, image, IMAGE_4, 0xFF, 0x04), 0);
+    same("10h in bank 4", yk_read(4, image, IMAGE_4, 0x10), packed(0, 0x5A));
+    same("20h in bank 4", yk_read(4, image, IMAGE_4, 0x20), packed(0, 0x53));
+    image[0x7C] = 0x60;
+    same("another device", yk_identity(4, image, IMAGE_4), YK_REFUSED_IDENTITY);
+    image[0x7C] = 0x5F;
+
+    /* Three bits right-aligned; VSEN1 and VSEN19, and no voltage at 62h. */
+    same("right steps", (uint64_t)(yk_steps_value(yk_right_steps(0xE6, 0xFA)) == -206), 1);
+    same("their answer", yk_right_steps(0xFF, 0xFF), packed(0, 0xFFFF));
+    same("right bytes", yk_right_bytes(-206), packed(0, 0xE602));
+    same("right bytes of 1024", yk_right_bytes(1024), YK_REFUSED_STEPS);
+    same("microvolts of VSEN1", yk_input_microvolts(0x40, 0x19, 0x06), packed(0, 412000));
+    same("microvolts of VSEN19", yk_input_microvolts(0x68, 0x19, 0x06), packed(0, 1236000));
+    same("no voltage", yk_input_microvolts(0x62, 0x19, 0x06), 0);
+
+    /* The plan: read, written again, asked, as script, played from another bank, translated. */
+    same("record", yk_read_record(record_4, sizeof record_4), packed(0, 13 + 256 * 4 + 65536 * 10));
+    same("written", yk_write_record(4, 10, body, BODY_4, out, sizeof out), packed(0, 13));
+    same("its bytes", (uint64_t)memcmp(out, record_4, 13), 0);
+    same("no table 11", yk_write_record(4, 11, body, BODY_4, out, sizeof out), YK_REFUSED_TABLE);
+    same("cut body", yk_write_record(4, 10, body, BODY_4 - 1, out, sizeof out), YK_REFUSED_BODY);
+    same("asked at -10", yk_asked_of_plan(4, 10, body, BODY_4, (uint8_t)-10), packed(0, 32));
+    same("short output", yk_script(4, 10, body, BODY_4, out, 27), YK_REFUSED_OUTPUT);
+    same("script", yk_script(4, 10, body, BODY_4, out, 28), packed(0, 14));
+    same("its first and last write", (uint64_t)(memcmp(out, "\xFF\x04", 2) | memcmp(out + 26, "\x5F\xFF", 2)), 0);
+    image[0xFF] = 0x2B;
+    same("asked before", yk_asked_of_image(4, 10, image, IMAGE_4, 30), packed(0, 155));
+    same("play of none", yk_play(4, 10, body, BODY_4, image, IMAGE_4, 0), 0);
+    same("play of 5", yk_play(4, 10, body, BODY_4, image, IMAGE_4, 5), packed(0, 5));
+    same("asked then", yk_asked_of_image(4, 10, image, IMAGE_4, 30), packed(0, 255));
+    same("play", yk_play(4, 10, body, BODY_4, image, IMAGE_4, 15), packed(0, 14));
+    same("asked at 35", yk_asked_of_image(4, 10, image, IMAGE_4, 35), packed(0, 191));
+    same("the table", (uint64_t)(memcmp(image + 0x458, body + 1, 8) | (image[0x415] != body[0])), 0);
+    same("the bank select register", image[0xFF], 0x2C);
+    same("text", yk_translate(record_4, sizeof record_4, out, sizeof out), packed(0, length));
+    same("its bytes", (uint64_t)memcmp(out, text_4, length), 0);
+}
 
 int main(void) {
     uint8_t image[YK_IMAGE], kept[YK_IMAGE], out[YK_IMAGE];
@@ -107,5 +176,6 @@ int main(void) {
     same("text", yk_translate(record, sizeof record, out, sizeof out), packed(0, length));
     same("its bytes", (uint64_t)memcmp(out, text, length), 0);
     same("short text", yk_translate(record, sizeof record, out, length - 1), YK_REFUSED_OUTPUT);
+    chip_4();
     return failed;
 }

@@ -6,15 +6,16 @@ use crate::subject::Subject;
 use std::fmt::{Debug, Formatter, Result};
 use std::panic::{catch_unwind, AssertUnwindSafe};
 
-pub const NAMES: [&str; 19] = [
+pub const NAMES: [&str; 22] = [
     "write", "read", "reset", "identity", "steps_of", "bytes_of", "microvolts", "sample",
     "acknowledge", "output", "judge", "asked_of_plan", "asked_of_image", "read_record",
-    "write_record", "script", "play", "translate", "run",
+    "write_record", "script", "play", "translate", "run", "right_steps", "right_bytes",
+    "input_microvolts",
 ];
 
 pub struct Driver<'a, S: Subject> {
     subject: &'a S,
-    pub calls: [u64; 19],
+    pub calls: [u64; NAMES.len()],
 }
 
 /// Prints what is known and ends the run.
@@ -35,19 +36,19 @@ pub fn hold(fact: bool, what: &str, inputs: &dyn Debug) {
     }
 }
 
-/// A lent buffer as it is printed: whole up to 320 bytes, else its length and first bytes.
+/// A lent buffer as it is printed: whole up to 1,280 bytes, else its length and first bytes.
 struct Lent<'a>(&'a [u8]);
 
 impl Debug for Lent<'_> {
     fn fmt(&self, f: &mut Formatter) -> Result {
-        let shown = &self.0[..self.0.len().min(320)];
+        let shown = &self.0[..self.0.len().min(1280)];
         write!(f, "lent {} bytes: {:02X?}", self.0.len(), shown)
     }
 }
 
 impl<'a, S: Subject> Driver<'a, S> {
     pub fn new(subject: &'a S) -> Self {
-        Driver { subject, calls: [0; 19] }
+        Driver { subject, calls: [0; NAMES.len()] }
     }
 
     pub fn total(&self) -> u64 {
@@ -89,11 +90,10 @@ impl<'a, S: Subject> Driver<'a, S> {
         let want = model(buffer);
         let all = (inputs, Lent(&before));
         let answer = self.plain(which, &all, 0, want, |subject| ask(subject, &mut theirs));
-        for (k, (want, got)) in buffer.iter().zip(&theirs).enumerate() {
-            if want != got {
-                let all = (inputs, Lent(&before), "the lent buffer afterwards, at", k);
-                stop(NAMES[which], &all, &Lent(&buffer[k..]), &Lent(&theirs[k..]));
-            }
+        if buffer != theirs {
+            let k = buffer.iter().zip(&theirs).take_while(|(want, got)| want == got).count();
+            let all = (inputs, Lent(&before), "the lent buffer afterwards, at", k);
+            stop(NAMES[which], &all, &Lent(&buffer[k..]), &Lent(&theirs[k..]));
         }
         if answer.0 != 0 && before != theirs {
             stop("each lent buffer holds what it held", &all, &answer, &Lent(&theirs));
@@ -144,6 +144,24 @@ impl<'a, S: Subject> Driver<'a, S> {
         self.agree(6, &word, model::microvolts(word), |s| s.microvolts(word))
     }
 
+    pub fn right_steps(&mut self, high: u8, low: u8) -> i16 {
+        let want = model::right_steps(high, low);
+        self.agree(19, &(high, low), want, |s| s.right_steps(high, low))
+    }
+
+    pub fn right_bytes(&mut self, steps: i16) -> (u32, u8, u8) {
+        let pack = |(refusal, high, low): (u32, u8, u8)| (refusal, [high, low]);
+        let want = pack(model::right_bytes(steps));
+        let (refusal, [high, low]) =
+            self.plain(20, &steps, [0, 0], want, |s| pack(s.right_bytes(steps)));
+        (refusal, high, low)
+    }
+
+    pub fn input_microvolts(&mut self, input: u8, high: u8, low: u8) -> u32 {
+        let want = model::input_microvolts(input, high, low);
+        self.agree(21, &(input, high, low), want, |s| s.input_microvolts(input, high, low))
+    }
+
     /// "A refused sample changes neither fact."
     pub fn sample(&mut self, watch: Watch, steps: i16, high: i8, hysteresis: i8) -> (u32, Watch) {
         let (refusal, after) = model::sample(watch, steps, high, hysteresis);
@@ -185,6 +203,33 @@ impl<'a, S: Subject> Driver<'a, S> {
         let want = model::asked_of_image(chip, table, image, t);
         let inputs = (chip, table, image, t);
         self.plain(12, &inputs, 0, want, |s| s.asked_of_image(chip, table, image, t))
+    }
+
+    /// What is asked at every T, from 00h to FFh.
+    fn at_all(
+        &mut self, which: usize, inputs: &dyn Debug, want: Vec<(u32, u16)>,
+        ask: impl Fn(&S, u8) -> (u32, u16),
+    ) -> Vec<(u32, u16)> {
+        self.calls[which] += 256;
+        let all = || (0..=255).map(|t| ask(self.subject, t)).collect();
+        let got: Vec<(u32, u16)> = match catch_unwind(AssertUnwindSafe(all)) {
+            Err(_) => stop(NAMES[which], inputs, &want, &"no answer: it panicked"),
+            Ok(got) => got,
+        };
+        if let Some(t) = (0..256).find(|t| want[*t] != got[*t]) {
+            stop(NAMES[which], &(inputs, t), &want[t], &got[t]);
+        }
+        want
+    }
+
+    pub fn asked_of_plan_at_all(&mut self, plan: Plan) -> Vec<(u32, u16)> {
+        let want = (0..=255).map(|t| model::asked_of_plan(plan, t)).collect();
+        self.at_all(11, &plan, want, |s, t| s.asked_of_plan(plan, t))
+    }
+
+    pub fn asked_of_image_at_all(&mut self, chip: u8, table: u8, image: &[u8]) -> Vec<(u32, u16)> {
+        let want = (0..=255).map(|t| model::asked_of_image(chip, table, image, t)).collect();
+        self.at_all(12, &(chip, table, image), want, |s, t| s.asked_of_image(chip, table, image, t))
     }
 
     pub fn read_record(&mut self, bytes: &[u8]) -> (u32, u8, u8, [u8; BODY], usize) {

@@ -1,9 +1,10 @@
 //! Every figure of the paper, asked of model and subject at once: the fixed points of the
-//! cards, "Figures to check against", the example text and "Mistakes we made or nearly made".
+//! cards, "Figures to check against", the example text and "Mistakes we made or nearly made"; and
+//! those worked out for chip 4.
 
-use crate::cards::{F75373S, NCT7802Y, NCT80};
+use crate::chips::chip_of;
 use crate::driver::{hold, Driver};
-use crate::model::{Plan, Watch, IMAGE};
+use crate::model::{self, Plan, Watch};
 use crate::subject::Subject;
 use crate::rounds::never_slower;
 use crate::tests::power_on;
@@ -16,10 +17,26 @@ const EXAMPLE: [u8; 13] = [
 const TEXT: &str = "plan 1 chip 1 table 3 writes 13\nA5 FF\nA6 FF\nA7 FF\nA8 FF\nA0 1E\nA1 28\n\
 A2 32\nA3 37\nA4 3C\nA5 8C\nA6 AA\nA7 C8\nA8 E6\nend 1\n";
 
+/// Two plans of chip 4, whose bodies begin with critical, and their texts.
+const FOUR: [([u8; 13], &str); 2] = [
+    (
+        [0x43, 0x50, 0x04, 0x01, 0x5A, 0x19, 0x23, 0x2D, 0x37, 0x8C, 0xAA, 0xC8, 0xE6],
+        "plan 1 chip 4 table 1 writes 14\nFF 03\n34 FF\n35 FF\n36 FF\n37 FF\n30 19\n31 23\n32 2D\n\
+33 37\n20 5A\n34 8C\n35 AA\n36 C8\n37 E6\nend 1\n",
+    ),
+    (
+        [0x43, 0x50, 0x04, 0x0A, 0x7F, 0xEC, 0x00, 0x14, 0x32, 0x00, 0x40, 0x80, 0xFF],
+        "plan 1 chip 4 table 10 writes 14\nFF 04\n5C FF\n5D FF\n5E FF\n5F FF\n58 EC\n59 00\n5A 14\n\
+5B 32\n15 7F\n5C 00\n5D 40\n5E 80\n5F FF\nend 1\n",
+    ),
+];
+
 pub fn run<S: Subject>(d: &mut Driver<S>) {
     cards(d);
+    banks(d);
     identities(d);
     readings(d);
+    right_aligned(d);
     watches(d);
     runs(d);
     speeds(d);
@@ -29,26 +46,30 @@ pub fn run<S: Subject>(d: &mut Driver<S>) {
 }
 
 /// Mask, clear mask and power-on byte of a row, found from outside by resets and writes.
-fn row<S: Subject>(d: &mut Driver<S>, chip: u8, address: u8) -> (u8, u8, u8) {
-    let at = usize::from(address);
-    let mut image = [0xFF; IMAGE];
-    d.write(chip, &mut image, address, 0x00);
-    let mask = !image[at];
-    let mut image = [0xFF; IMAGE];
-    d.write(chip, &mut image, address, 0xFF);
-    let clears = !image[at];
-    let mut image = [0x5A; IMAGE];
+fn row<S: Subject>(d: &mut Driver<S>, chip: u8, at: usize) -> (u8, u8, u8) {
+    let (bank, address) = ((at / 256) as u8, (at % 256) as u8);
+    let length = model::image_length(chip);
+    let mut changed = |byte: u8| {
+        let mut image = vec![0xFF; length];
+        if chip == 4 && address != 0xFF {
+            image[0xFF] = 0xF8 | bank;
+        }
+        d.write(chip, &mut image, address, byte);
+        !image[at]
+    };
+    let (mask, clears) = (changed(0x00), changed(0xFF));
+    let mut image = vec![0x5A; length];
     d.reset(chip, &mut image);
     (mask, clears, image[at])
 }
 
 /// "Fixed points for review", then every row of every card.
 fn cards<S: Subject>(d: &mut Driver<S>) {
-    let mut point = |chip: u8, address: u8, want: (Option<u8>, Option<u8>, Option<u8>)| {
-        let (mask, clears, power_on) = row(d, chip, address);
+    let mut point = |chip: u8, at: usize, want: (Option<u8>, Option<u8>, Option<u8>)| {
+        let (mask, clears, power_on) = row(d, chip, at);
         let is = |want: Option<u8>, got: u8| want.map_or(true, |want| want == got);
         let good = is(want.0, mask) && is(want.1, clears) && is(want.2, power_on);
-        hold(good, "fixed points for review", &(chip, address, mask, clears, power_on));
+        hold(good, "fixed points for review", &(chip, at, mask, clears, power_on));
     };
     // "Chip 1, 54h and 56h mask 3Fh, power-on 3Fh; 55h and 57h mask 3Fh, power-on 00h; A3h to
     // A8h power-on 37h, 3Ch, 8Ch, AAh, C8h, E6h."
@@ -71,27 +92,85 @@ fn cards<S: Subject>(d: &mut Driver<S>) {
     point(3, 0x00, (Some(0xFF), None, Some(0x08)));
     point(3, 0x01, (Some(0), Some(0), None));
     point(3, 0x09, (Some(0x07), None, None));
+    // Chip 4: the sheet's defaults of tables 1 to 4 in bank 3, of 5 to 10 in bank 4; the criticals
+    // "5A (90 C)"; the bank select register's bits 2 to 0.
+    let defaults = [0x19, 0x23, 0x2D, 0x37, 0x8C, 0xAA, 0xC8, 0xE6];
+    for (at, power_on) in (0x330..0x350).chain(0x430..0x460).zip(defaults.iter().cycle()) {
+        point(4, at, (None, None, Some(*power_on)));
+    }
+    for at in (0x320..0x324).chain(0x410..0x416) {
+        point(4, at, (None, None, Some(0x5A)));
+    }
+    point(4, 0xFF, (Some(0x07), Some(0), Some(0)));
+    // "A register seen in every bank stands in bank 0's page only."
+    for at in (1..5).flat_map(|bank| [0x7A, 0x7B, 0x7C, 0xFF].map(|address| 256 * bank + address)) {
+        point(4, at, (Some(0), Some(0), Some(0)));
+    }
     // "All fan table registers have mask FFh."
-    for (chip, base, length) in [(1, 0x80, 9), (1, 0x90, 9), (1, 0xA0, 9), (2, 0xA0, 14), (2, 0xB0, 14)] {
-        for address in base..base + length {
-            point(chip, address, (Some(0xFF), Some(0), None));
+    let tables = [
+        (1, 0x80, 9), (1, 0x90, 9), (1, 0xA0, 9), (2, 0xA0, 14), (2, 0xB0, 14),
+        (4, 0x320, 4), (4, 0x330, 32), (4, 0x410, 6), (4, 0x430, 48),
+    ];
+    for (chip, base, length) in tables {
+        for at in base..base + length {
+            point(chip, at, (Some(0xFF), Some(0), None));
         }
     }
     // The two settled rows.
     point(1, 0x6D, (Some(0x0F), Some(0), Some(0)));
     point(2, 0x32, (Some(0xFF), Some(0), Some(0)));
     // "In each row the two masks share no bit."
-    for (chip, card) in (1..).zip([&NCT7802Y, &F75373S, &NCT80]) {
-        for address in 0..=255 {
-            let (mask, clears, power_on) = card[usize::from(address)];
-            hold(mask & clears == 0, "the two masks share no bit", &(chip, address));
-            point(chip, address, (Some(mask), Some(clears), Some(power_on)));
+    for chip in 1..=4 {
+        let card = chip_of(chip).unwrap().card;
+        hold(card.len() == if chip == 4 { 1280 } else { 256 }, "the rows of a card", &chip);
+        for (at, (mask, clears, power_on)) in card.iter().copied().enumerate() {
+            hold(mask & clears == 0, "the two masks share no bit", &(chip, at));
+            point(chip, at, (Some(mask), Some(clears), Some(power_on)));
+        }
+    }
+}
+
+/// Chip 4 on a bus: what is written, and what is read then.
+fn banks<S: Subject>(d: &mut Driver<S>) {
+    let mut image = power_on(d, 4);
+    let steps: [((u8, u8), &[(u8, u8)]); 5] = [
+        // Bank 3, and bits 7 to 3 can't be written.
+        ((0xFF, 0x83), &[(0xFF, 0x03), (0x20, 0x5A), (0x7A, 0x50)]),
+        ((0x20, 0x55), &[(0x20, 0x55)]),
+        // A bank the sheet lacks.
+        ((0xFF, 0x06), &[(0x20, 0x00), (0x7B, 0xC5)]),
+        ((0x20, 0x11), &[(0x20, 0x00)]),
+        ((0xFF, 0x04), &[(0x10, 0x5A), (0x20, 0x53)]),
+    ];
+    let reset = image.clone();
+    for ((address, byte), reads) in steps {
+        d.write(4, &mut image, address, byte);
+        for (address, byte) in reads {
+            hold(d.read(4, &image, *address) == (0, *byte), "banks of chip 4", &(address, byte));
+        }
+    }
+    let changed: Vec<usize> = (0..1280).filter(|at| image[*at] != reset[*at]).collect();
+    hold(changed == [0xFF, 0x320], "the bytes that were written", &changed);
+    // "The bank selected is what the bank bits [...] say, whatever its other bits hold"; these keep.
+    image[0xFF] = 0x2C;
+    hold(d.read(4, &image, 0x15) == (0, 0x5A), "bank 4 is selected", &0x2C);
+    d.write(4, &mut image, 0xFF, 0x03);
+    hold(image[0xFF] == 0x2B, "bits 7 to 3 are kept", &image[0xFF]);
+    hold(d.read(4, &image, 0x20) == (0, 0x55), "bank 3 is selected", &0x2B);
+    // 3 comes before 8.
+    hold(d.read(5, &image, 0) == (3, 0) && d.read(5, &[], 0) == (3, 0), "3 before 8", &5);
+    for chip in 1..=4 {
+        for length in [0, 255, 256, 257, 1279, 1280, 1281] {
+            let mut image = vec![0; length];
+            let want = if length == model::image_length(chip) { 0 } else { 8 };
+            let refusals = [d.write(chip, &mut image, 9, 9), d.read(chip, &image, 9).0, d.reset(chip, &mut image)];
+            hold(refusals == [want; 3], "the length of an image", &(chip, length));
         }
     }
 }
 
 fn identities<S: Subject>(d: &mut Driver<S>) {
-    for (chip, want) in [(1, 0), (2, 0), (3, 10)] {
+    for (chip, want) in [(1, 0), (2, 0), (3, 10), (4, 0)] {
         let image = power_on(d, chip);
         hold(d.identity(chip, &image) == want, "identity at power-on", &chip);
     }
@@ -99,6 +178,22 @@ fn identities<S: Subject>(d: &mut Driver<S>) {
     let mut image = power_on(d, 2);
     image[0x5E] = 0x35;
     hold(d.identity(2, &image) == 10, "the fourth identity byte", &image);
+    // Chip 4, both sets, each bit alone, whichever bank is selected; the device's low four bits are
+    // any.
+    for select in 0..=255u8 {
+        let mut image = power_on(d, 4);
+        image[0xFF] = select;
+        image[0x0F] = 0x50 | select % 16;
+        image[0x7C] = 0x50 | select / 16;
+        hold(d.identity(4, &image) == 0, "identity of chip 4", &select);
+        for (at, named) in [(0x0D, 8), (0x0E, 8), (0x0F, 4), (0x7A, 8), (0x7B, 8), (0x7C, 4)] {
+            let bit = select % 8;
+            image[at] ^= 1 << bit;
+            let want = if bit + named >= 8 { 10 } else { 0 };
+            hold(d.identity(4, &image) == want, "one bit of it", &(at, bit));
+            image[at] ^= 1 << bit;
+        }
+    }
 }
 
 fn readings<S: Subject>(d: &mut Driver<S>) {
@@ -118,6 +213,33 @@ fn readings<S: Subject>(d: &mut Driver<S>) {
     }
     hold(d.microvolts(0xFFC0) == 1023 * 2500, "a full voltage word", &0xFFC0);
     hold(d.microvolts(0x007F) == 2500, "bits 15 to 6", &0x007F);
+}
+
+/// Readings of chip 4, "with the low three bits right-aligned in the low byte".
+fn right_aligned<S: Subject>(d: &mut Driver<S>) {
+    // The table of the sheet's section 6.3, with 0 and with 1 for X, then the ends.
+    let words: [(u8, u8, i16); 12] = [
+        (0x7F, 0x07, 1023), (0x19, 0x06, 206), (0x02, 0x02, 18), (0x01, 0x01, 9), (0x00, 0x00, 0),
+        (0xFE, 0x07, -9), (0xFD, 0x06, -18), (0xE6, 0x02, -206), (0x80, 0x01, -1023),
+        (0x80, 0x00, -1024), (0xFF, 0x07, -1), (0x00, 0x07, 7),
+    ];
+    for (high, low, steps) in words {
+        hold(d.right_steps(high, low) == steps, "temperatures of chip 4", &(high, low));
+        hold(d.right_steps(high, low | 0xF8) == steps, "bits 7 to 3 are ignored", &(high, low));
+        hold(d.right_bytes(steps) == (0, high, low), "and written as zero", &steps);
+    }
+    for (steps, want) in [(1023, 0), (1024, 12), (-1024, 0), (-1025, 12), (32767, 12), (-32768, 12)] {
+        hold(d.right_bytes(steps).0 == want, "steps of chip 4", &steps);
+    }
+    // Section 6.4, and section 7.1.10 for the addresses; at 62h stands a temperature.
+    for input in 0..=255 {
+        let two = (0x40..=0x5A).contains(&input) && input % 2 == 0;
+        let six = [0x5C, 0x5E, 0x60, 0x64, 0x66, 0x68].contains(&input);
+        let want = if two { 412_000 } else if six { 1_236_000 } else { 0 };
+        hold(d.input_microvolts(input, 0x19, 0x06) == want, "voltages of chip 4", &input);
+        hold(d.input_microvolts(input, 0x19, 0xFE) == want, "bits 7 to 3 are ignored", &input);
+    }
+    hold(d.input_microvolts(0x68, 0xFF, 0xFF) == 12_282_000, "the largest voltage", &0x68);
 }
 
 fn watches<S: Subject>(d: &mut Driver<S>) {
@@ -214,6 +336,23 @@ fn speeds<S: Subject>(d: &mut Driver<S>) {
     // "FL1 = 200, FL2 = 100, T1 = 0, T2 = 3, critical 100: at 1 the duty is 166"; not 167.
     let plan = Plan { chip: 1, table: 1, body: &[0, 3, 10, 20, 100, 200, 100, 100, 100] };
     hold(d.asked_of_plan(plan, 1) == (0, 166), "falling duty", &plan);
+    // Chip 4, with critical before T1: the same curve asks the same. T comes signed.
+    let plan = Plan { chip: 4, table: 3, body: &[60, 30, 40, 50, 55, 0x8C, 0xAA, 0xC8, 0xE6] };
+    for (t, want) in [(128, 140), (30, 140), (33, 149), (45, 185), (53, 218), (58, 230), (60, 255), (127, 255)] {
+        hold(d.asked_of_plan(plan, t) == (0, want), "duties of chip 4", &t);
+    }
+    let plan = Plan { chip: 4, table: 10, body: &FOUR[1].0[4..] };
+    for (t, want) in [(-128, 0), (-20, 0), (-10, 32), (0, 64), (10, 96), (35, 191), (50, 255), (126, 255)] {
+        hold(d.asked_of_plan(plan, t as u8) == (0, want), "signed degrees", &t);
+    }
+    // What the image asks doesn't go by the bank selected.
+    for select in 0..=255 {
+        let mut image = power_on(d, 4);
+        image[0xFF] = select;
+        image[0x415] = 0x28;
+        let asked = [(1, 60), (1, 90), (10, 39), (10, 40)].map(|(table, t)| d.asked_of_image(4, table, &image, t));
+        hold(asked == [(0, 230), (0, 255), (0, 182), (0, 255)], "in their own banks", &select);
+    }
     // "B1 = 60, B2 = 50: 61 asks C1, 60 and 51 ask C2."
     let plan = Plan { chip: 2, table: 1, body: &[60, 50, 40, 30, 1, 2, 3, 4, 5, 6, 7, 8, 9, 10] };
     for (t, want) in [(61, 0x0102), (60, 0x0304), (51, 0x0304), (50, 0x0506), (0, 0x090A)] {
@@ -232,12 +371,23 @@ fn records<S: Subject>(d: &mut Driver<S>) {
     let two = Plan { chip: 2, table: 2, body: &[4, 3, 2, 1, 0, 0, 0, 1, 0, 1, 1, 0, 255, 255] };
     hold(d.write_record(two, &mut out) == (0, 18), "18 bytes", &two);
     hold(d.script(two, &mut out) == (0, 24), "24 writes", &two);
+    for (record, text) in FOUR {
+        let (refusal, chip, table, body, used) = d.read_record(&record);
+        hold((refusal, chip, table, used) == (0, 4, record[3], 13), "a record of chip 4", &record);
+        let plan = Plan { chip, table, body: &body };
+        hold(d.write_record(plan, &mut out) == (0, 13) && out[..13] == record, "written again", &plan);
+        hold(d.script(plan, &mut [0; 27]) == (9, 0), "27 bytes are too few", &plan);
+        hold(d.script(plan, &mut [0; 28]) == (0, 14), "14 writes", &plan);
+        let (refusal, length) = d.translate(&record, &mut out);
+        hold(refusal == 0 && &out[..length] == text.as_bytes(), text, &record);
+    }
     for (input, text) in [(&EXAMPLE[..], TEXT), (&[][..], "end 0\n"), (&[0; 4097][..], "input too long\n")] {
         let (refusal, length) = d.translate(input, &mut out);
         hold(refusal == 0 && &out[..length] == text.as_bytes(), text, &input);
     }
     let refused = [(&EXAMPLE[..3], 1), (&[0x43, 0x51, 9, 9], 2), (&[0x43, 0x50, 9, 9], 3),
-        (&[0x43, 0x50, 3, 1], 4), (&EXAMPLE[..12], 5)];
+        (&[0x43, 0x50, 3, 1], 4), (&EXAMPLE[..12], 5), (&[0x43, 0x50, 4, 0], 4), (&[0x43, 0x50, 4, 11], 4),
+        (&[0x43, 0x50, 4, 10], 5), (&FOUR[1].0[..12], 5), (&[0x43, 0x50, 5, 1], 3)];
     for (input, refusal) in refused {
         hold(d.read_record(input).0 == refusal, "the refusal table", &input);
         let (_, length) = d.translate(input, &mut out);
@@ -256,27 +406,34 @@ fn cut_bodies<S: Subject>(d: &mut Driver<S>) {
         [d.write_record(plan, &mut out).0, d.script(plan, &mut out).0, d.play(plan, image, 99).0, asked]
     };
     let two = [60, 50, 40, 30, 1, 255, 2, 0, 3, 0, 8, 0, 255, 255];
-    for (chip, body) in [(1, &EXAMPLE[4..]), (2, &two)] {
+    for (chip, body) in [(1, &EXAMPLE[4..]), (2, &two), (4, &FOUR[0].0[4..])] {
+        let image = model::image_length(chip);
         for length in 0..body.len() {
             let cut = &body[..length];
-            hold(refusals(chip, 1, cut, 48, &mut [0; IMAGE]) == [5; 4], "a cut body", &cut);
+            hold(refusals(chip, 1, cut, 48, &mut vec![0; image]) == [5; 4], "a cut body", &cut);
             hold(refusals(chip, 1, cut, 0, &mut []) == [5; 4], "5 before 8, 9 and 10", &cut);
             hold(refusals(chip, 0, cut, 0, &mut []) == [4; 4], "4 before 5", &cut);
             hold(refusals(3, 1, cut, 0, &mut []) == [4; 4], "no table of chip 3", &cut);
-            hold(refusals(4, 1, cut, 0, &mut []) == [3; 4], "3 before 5", &cut);
+            hold(refusals(5, 1, cut, 0, &mut []) == [3; 4], "3 before 5", &cut);
         }
-        hold(refusals(chip, 1, body, 12, &mut [0; 255]) == [9, 9, 8, 0], "a whole body", &body);
-        hold(refusals(chip, 1, body, 48, &mut [0; IMAGE]) == [0, 0, 10, 0], "a whole body", &body);
+        hold(refusals(chip, 1, body, 12, &mut vec![0; image - 1]) == [9, 9, 8, 0], "a whole body", &body);
+        hold(refusals(chip, 1, body, 48, &mut vec![0; image]) == [0, 0, 10, 0], "a whole body", &body);
     }
     // Out of order, but 6 and 7 only when the body is whole; what is asked is refused by neither.
     let unordered = [40; 14];
-    hold(refusals(1, 1, &unordered[..8], 48, &mut [0; IMAGE]) == [5; 4], "5 before 6", &1);
+    hold(refusals(1, 1, &unordered[..8], 48, &mut [0; 256]) == [5; 4], "5 before 6", &1);
     hold(refusals(1, 1, &unordered[..9], 0, &mut []) == [6, 6, 6, 0], "then 6", &1);
-    hold(refusals(2, 2, &unordered[..13], 48, &mut [0; IMAGE]) == [5; 4], "5 before 6", &2);
+    hold(refusals(2, 2, &unordered[..13], 48, &mut [0; 256]) == [5; 4], "5 before 6", &2);
     hold(refusals(2, 2, &unordered, 0, &mut []) == [6, 6, 6, 0], "then 6", &2);
     let falling = [10, 20, 30, 40, 50, 4, 3, 2, 1];
-    hold(refusals(1, 3, &falling[..8], 48, &mut [0; IMAGE]) == [5; 4], "5 before 7", &1);
+    hold(refusals(1, 3, &falling[..8], 48, &mut [0; 256]) == [5; 4], "5 before 7", &1);
     hold(refusals(1, 3, &falling, 0, &mut []) == [7, 7, 7, 0], "then 7", &1);
+    // The same bytes with critical first: in chip 1's order a plan of chip 4 is refused.
+    hold(refusals(4, 9, &unordered[..9], 0, &mut []) == [6, 6, 6, 0], "then 6", &4);
+    hold(refusals(4, 9, &falling, 0, &mut []) == [6, 6, 6, 0], "critical is below T4", &4);
+    let falling = [40, 10, 20, 30, 40, 4, 3, 2, 1];
+    hold(refusals(4, 10, &falling[..8], 48, &mut [0; 1280]) == [5; 4], "5 before 7", &4);
+    hold(refusals(4, 10, &falling, 0, &mut []) == [7, 7, 7, 0], "then 7", &4);
 }
 
 /// The two mistakes about order, and that the check for them would have found them.
@@ -299,4 +456,15 @@ fn half_loaded<S: Subject>(d: &mut Driver<S>) {
     let (_, writes) = d.script(plan, &mut out);
     hold(never_slower(d, plan, &old, &out[..2 * writes]), "the script of chip 2", &plan);
     hold(!never_slower(d, plan, &old, &[0xA5, 0xFF, 0xA4, 0x01]), "low byte first is found out", &plan);
+    // Chip 4 with bank 4 selected. In the body's order critical comes first: a higher one leaves what
+    // was at full speed to the old duties.
+    let mut old = power_on(d, 4);
+    old[0xFF] = 0x04;
+    let plan = Plan { chip: 4, table: 2, body: &[95, 35, 45, 55, 65, 0x8C, 0xDC, 0xF0, 0xFA] };
+    let (_, writes) = d.script(plan, &mut out);
+    hold(never_slower(d, plan, &old, &out[..2 * writes]), "the script of chip 4", &plan);
+    let wrong: Vec<u8> = (0x38..0x40).zip(&plan.body[1..]).flat_map(|(address, byte)| [address, *byte]).collect();
+    hold(never_slower(d, plan, &old, &wrong), "writes in another bank leave the curve", &plan);
+    let wrong = [&[0xFF, 0x03, 0x21, 0x5F], &wrong[..]].concat();
+    hold(!never_slower(d, plan, &old, &wrong), "the body's order is found out", &plan);
 }

@@ -31,6 +31,9 @@ int main(void) {
     same("used", (long)yk_record_used(packed(0, 18 + 256 * 2 + 65536 * 1)), 18);
     same("chip", yk_record_chip(packed(0, 18 + 256 * 2 + 65536 * 1)), 2);
     same("table", yk_record_table(packed(0, 13 + 256 * 1 + 65536 * 3)), 3);
+    same("used of chip 4", (long)yk_record_used(packed(0, 13 + 256 * 4 + 65536 * 10)), 13);
+    same("chip 4", yk_record_chip(packed(0, 13 + 256 * 4 + 65536 * 10)), 4);
+    same("table 10", yk_record_table(packed(0, 13 + 256 * 4 + 65536 * 10)), 10);
     for (facts = 0; facts < 8; facts++) {
         same("hot", yk_facts_hot(packed(12, facts)), facts % 2);
         same("pending", yk_facts_pending(packed(0, facts)), facts / 2 % 2);

@@ -15,6 +15,9 @@ extern "C" {
     fn yk_steps(width: u8, high: u8, low: u8) -> u64;
     fn yk_bytes(width: u8, steps: i16) -> u64;
     fn yk_microvolts(word: u16) -> u64;
+    fn yk_right_steps(high: u8, low: u8) -> u64;
+    fn yk_right_bytes(steps: i16) -> u64;
+    fn yk_input_microvolts(input: u8, high: u8, low: u8) -> u64;
     fn yk_sample(behaviour: u8, facts: u8, steps: i16, high: i8, hysteresis: i8) -> u64;
     fn yk_run(behaviour: u8, facts: u8, samples: *const i16, length: usize, high: i8, hysteresis: i8) -> u64;
     fn yk_acknowledge(behaviour: u8, facts: u8) -> u64;
@@ -110,6 +113,25 @@ impl Subject for Library {
 
     fn microvolts(&self, word: u16) -> u32 {
         let (refusal, microvolts) = parts(unsafe { yk_microvolts(word) });
+        assert_eq!(refusal, 0, "a voltage is never refused");
+        microvolts
+    }
+
+    /// The value is a 16-bit two's complement number.
+    fn right_steps(&self, high: u8, low: u8) -> i16 {
+        let (refusal, word): (u32, u16) = parts(unsafe { yk_right_steps(high, low) });
+        assert_eq!(refusal, 0, "two bytes are never refused");
+        word as i16
+    }
+
+    fn right_bytes(&self, steps: i16) -> (u32, u8, u8) {
+        let (refusal, word): (u32, u16) = parts(unsafe { yk_right_bytes(steps) });
+        let [high, low] = word.to_be_bytes();
+        (refusal, high, low)
+    }
+
+    fn input_microvolts(&self, input: u8, high: u8, low: u8) -> u32 {
+        let (refusal, microvolts) = parts(unsafe { yk_input_microvolts(input, high, low) });
         assert_eq!(refusal, 0, "a voltage is never refused");
         microvolts
     }

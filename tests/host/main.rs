@@ -4,6 +4,7 @@
 mod bench;
 mod boundary;
 mod cards;
+mod chips;
 mod driver;
 mod fence;
 mod figures;

@@ -1,24 +1,37 @@
-//! A plain model of the base, written from the rules paper alone. Every function answers
-//! every input. 0 means accepted; any other number is the paper's refusal number.
-//! "A refusal returns its number and zero in every other part of the answer (a watch comes
-//! back unchanged), and each lent buffer holds what it held."
+//! A plain model of the base and of chip 4, written from the rules paper, the request for chip 4
+//! and the data sheets alone. Every function answers every input. 0 means accepted; any other
+//! number is the paper's refusal number. "A refusal returns its number and zero in every other part
+//! of the answer (a watch comes back unchanged), and each lent buffer holds what it held."
 
+use crate::chips::{chip_of, Chip, Curve};
+use crate::images::image_of;
 pub use crate::images::{identity, read, reset, write};
-pub use crate::readings::{acknowledge, bytes_of, microvolts, output, run, sample, steps_of, Watch};
+pub use crate::readings::{
+    acknowledge, bytes_of, input_microvolts, microvolts, output, right_bytes, right_steps, run,
+    sample, steps_of, Watch,
+};
 pub use crate::text::{translate, INPUT};
 
-/// "A register image is not 256 bytes long" is refusal 8.
-pub const IMAGE: usize = 256;
-/// The longest body: "9 bytes for chip 1, 14 for chip 2".
+/// The longest body: "9 bytes for chip 1, 14 for chip 2", 9 for chip 4.
 pub const BODY: usize = 14;
-/// The longest script: 24 writes, two bytes each.
+/// The longest script: 24 writes, two bytes each, of chip 2.
 pub const SCRIPT: usize = 48;
+
+/// The bytes of a chip's image: 1,280 for chip 4, else 256, also where there is no such chip.
+pub fn image_length(chip: u8) -> usize {
+    chip_of(chip).map_or(256, |chip| chip.card.len())
+}
+
+/// The number of a chip's fan tables.
+pub fn tables(chip: u8) -> usize {
+    chip_of(chip).map_or(0, |chip| chip.tables.len())
+}
 
 // ---- Plans and what they ask
 
 /// Chip, table and the body in register order (9 bytes for chip 1: T1 to T4, critical, FL1 to
-/// FL4; 14 for chip 2: B1 to B4, then C1 to C5, high byte first). Fewer are refused with 5,
-/// further ones are ignored.
+/// FL4; 14 for chip 2: B1 to B4, then C1 to C5, high byte first; 9 for chip 4: critical, T1 to T4,
+/// P1 to P4). Fewer are refused with 5, further ones are ignored.
 #[derive(Clone, Copy, Debug)]
 pub struct Plan<'a> {
     pub chip: u8,
@@ -26,46 +39,45 @@ pub struct Plan<'a> {
     pub body: &'a [u8],
 }
 
-/// 3, "the chip number is not 1, 2 or 3"; 4, "the chip has no such fan table (chip 1: 1 to 3;
-/// chip 2: 1 and 2; chip 3: none)".
-fn table_refusal(chip: u8, table: u8) -> u32 {
-    match (chip, table) {
-        (1, 1..=3) | (2, 1..=2) => 0,
-        (1..=3, _) => 4,
-        _ => 3,
+/// A fan table that there is: its chip, and where its registers stand in the image, in the order
+/// of the body.
+#[derive(Clone, Copy)]
+struct Table {
+    chip: &'static Chip,
+    registers: &'static [usize],
+}
+
+impl Table {
+    /// The writable bits of the register of the body's byte k.
+    fn mask(&self, k: usize) -> u8 {
+        self.chip.card[self.registers[k]].0
     }
 }
 
-/// "9 bytes for chip 1, 14 for chip 2."
-fn body_length(chip: u8) -> usize {
-    if chip == 1 {
-        9
-    } else {
-        14
+/// 3, the chip number is not 1, 2, 3 or 4; 4, "the chip has no such fan table (chip 1: 1 to 3;
+/// chip 2: 1 and 2; chip 3: none)", chip 4: 1 to 10.
+fn table_of(chip: u8, table: u8) -> Result<Table, u32> {
+    let chip = chip_of(chip).ok_or(3u32)?;
+    let registers = chip.tables.get(usize::from(table).wrapping_sub(1)).ok_or(4u32)?;
+    Ok(Table { chip, registers })
+}
+
+/// Where the registers of a table stand in the image, in the order of the body.
+pub fn registers(chip: u8, table: u8) -> Option<&'static [usize]> {
+    table_of(chip, table).ok().map(|table| table.registers)
+}
+
+/// The table of a plan and its own bytes, zeros behind them. 3 and 4, then 5, "the record's body is
+/// cut short": a plan comes with such a body too.
+fn whole(plan: Plan) -> Result<(Table, [u8; BODY]), u32> {
+    let table = table_of(plan.chip, plan.table)?;
+    let length = table.registers.len();
+    if plan.body.len() < length {
+        return Err(5);
     }
-}
-
-/// "Chip 1 table 1 has T1 to T4 at 80h to 83h [...]; table 2 the same from 90h, table 3 from
-/// A0h. Chip 2 fan 1 has B1 to B4 at A0h to A3h [...]; fan 2 the same from B0h."
-fn base(chip: u8, table: u8) -> u8 {
-    let first = if chip == 1 { 0x80 } else { 0xA0 };
-    first + 0x10 * (table - 1)
-}
-
-/// The chip's own bytes, of which there are enough, and zeros behind them.
-fn own(chip: u8, bytes: &[u8]) -> [u8; BODY] {
     let mut body = [0; BODY];
-    let length = body_length(chip);
-    body[..length].copy_from_slice(&bytes[..length]);
-    body
-}
-
-/// 3 and 4, then 5, "the record's body is cut short": a plan comes with such a body too.
-fn body_refusal(plan: Plan) -> u32 {
-    match table_refusal(plan.chip, plan.table) {
-        0 if plan.body.len() < body_length(plan.chip) => 5,
-        refusal => refusal,
-    }
+    body[..length].copy_from_slice(&plan.body[..length]);
+    Ok((table, body))
 }
 
 fn count(body: &[u8; BODY], k: usize) -> u16 {
@@ -74,39 +86,53 @@ fn count(body: &[u8; BODY], k: usize) -> u16 {
 
 /// "Accepted if T1 < T2 < T3 < T4, T4 at most critical (else 6), and the duties never fall
 /// from FL1 to FL4 (else 7)." "Accepted if B1 > B2 > B3 > B4 (else 6) and counts never fall
-/// from C1 to C5 (else 7)."
-fn order_refusal(chip: u8, body: &[u8; BODY]) -> u32 {
-    let (temperatures, speeds) = if chip == 1 {
-        let t = |k: usize| body[k] as i8;
-        let rising = (0..3).all(|k| t(k) < t(k + 1)) && t(3) <= t(4);
-        (rising, (5..8).all(|k| body[k] <= body[k + 1]))
-    } else {
-        let falling = (0..3).all(|k| body[k] > body[k + 1]);
-        (falling, (0..4).all(|k| count(body, k) <= count(body, k + 1)))
+/// from C1 to C5 (else 7)." "6 and 7 also for a value its register's writable bits can't hold."
+fn order_refusal(table: Table, body: &[u8; BODY]) -> u32 {
+    let chip = table.chip;
+    let (temperatures, speeds) = match chip.curve {
+        Curve::Slope => {
+            let t = |k: usize| body[chip.temperatures[k]] as i8;
+            let fl = |k: usize| body[chip.speeds[k]];
+            let rising = (0..3).all(|k| t(k) < t(k + 1)) && t(3) <= t(4);
+            (rising, (0..3).all(|k| fl(k) <= fl(k + 1)))
+        }
+        Curve::Counts => {
+            let falling = (0..3).all(|k| body[k] > body[k + 1]);
+            (falling, (0..4).all(|k| count(body, k) <= count(body, k + 1)))
+        }
     };
-    match (temperatures, speeds) {
-        (false, _) => 6,
-        (true, false) => 7,
-        (true, true) => 0,
+    let held = |k: &usize| body[*k] & !table.mask(*k) == 0;
+    if !temperatures || !chip.temperatures.iter().all(held) {
+        6
+    } else if !speeds || !chip.speeds.iter().all(held) {
+        7
+    } else {
+        0
     }
 }
 
 /// The checks of a plan: 3, 4, 5, 6 and 7.
-pub fn judge(plan: Plan) -> u32 {
-    match body_refusal(plan) {
-        0 => order_refusal(plan.chip, &own(plan.chip, plan.body)),
-        refusal => refusal,
+fn good(plan: Plan) -> Result<(Table, [u8; BODY]), u32> {
+    let (table, body) = whole(plan)?;
+    match order_refusal(table, &body) {
+        0 => Ok((table, body)),
+        refusal => Err(refusal),
     }
+}
+
+/// The same as a number, 0 for none.
+pub fn judge(plan: Plan) -> u32 {
+    good(plan).err().unwrap_or(0)
 }
 
 /// "255 if T is at least critical; else FL1 if T is at most T1; else for the first k in 2, 3,
 /// 4 with T at most Tk, the floor of (FL(k-1) x (Tk - T) + FLk x (T - T(k-1))) /
 /// (Tk - T(k-1)); else FL4."
-fn duty(body: &[u8; BODY], t: i8) -> u16 {
+fn duty(chip: &Chip, body: &[u8; BODY], t: i8) -> u16 {
     let t = i32::from(t);
-    let point = |k: usize| i32::from(body[k - 1] as i8);
-    let level = |k: usize| i32::from(body[k + 4]);
-    let critical = i32::from(body[4] as i8);
+    let point = |k: usize| i32::from(body[chip.temperatures[k - 1]] as i8);
+    let level = |k: usize| i32::from(body[chip.speeds[k - 1]]);
+    let critical = point(5);
     if t >= critical {
         return 255;
     }
@@ -132,34 +158,39 @@ fn asked_count(body: &[u8; BODY], t: u8) -> u16 {
     count(body, 4)
 }
 
-/// "T comes as one byte, signed for chip 1 and unsigned for chip 2."
-fn asked(chip: u8, body: &[u8; BODY], t: u8) -> u16 {
-    if chip == 1 {
-        duty(body, t as i8)
-    } else {
-        asked_count(body, t)
+/// "T comes as one byte, signed for chip 1 and unsigned for chip 2." Chip 4: "T comes signed, as
+/// for chip 1."
+fn asked(chip: &Chip, body: &[u8; BODY], t: u8) -> u16 {
+    match chip.curve {
+        Curve::Slope => duty(chip, body, t as i8),
+        Curve::Counts => asked_count(body, t),
     }
 }
 
 /// "Asking a speed [...] of a plan [checks] 3 and 4, never 6 or 7"; of its body 5.
 pub fn asked_of_plan(plan: Plan, t: u8) -> (u32, u16) {
-    match body_refusal(plan) {
-        0 => (0, asked(plan.chip, &own(plan.chip, plan.body), t)),
-        refusal => (refusal, 0),
+    match whole(plan) {
+        Ok((table, body)) => (0, asked(table.chip, &body, t)),
+        Err(refusal) => (refusal, 0),
     }
 }
 
-/// "Asking a speed of an image checks 3, 4 and 8."
+/// "Asking a speed of an image checks 3, 4 and 8." The curve is "the one its registers hold in their
+/// own banks, whichever bank was selected; a table value is its register's writable bits, all
+/// other bits counting as zero".
 pub fn asked_of_image(chip: u8, table: u8, image: &[u8], t: u8) -> (u32, u16) {
-    let refusal = table_refusal(chip, table);
-    if refusal != 0 {
+    let table = match table_of(chip, table) {
+        Ok(table) => table,
+        Err(refusal) => return (refusal, 0),
+    };
+    if let Err(refusal) = image_of(chip, image.len()) {
         return (refusal, 0);
     }
-    if image.len() != IMAGE {
-        return (8, 0);
+    let mut body = [0; BODY];
+    for (k, at) in table.registers.iter().enumerate() {
+        body[k] = image[*at] & table.mask(k);
     }
-    let first = usize::from(base(chip, table));
-    (0, asked(chip, &own(chip, &image[first..]), t))
+    (0, asked(table.chip, &body, t))
 }
 
 // ---- Plan record and script
@@ -167,7 +198,7 @@ pub fn asked_of_image(chip: u8, table: u8, image: &[u8], t: u8) -> (u32, u16) {
 /// "A record is a two-byte mark 43h 50h before each plan, chip, table, then the body in the
 /// register order above." The checks are 1 to 7 in the order of the refusal table: the plan
 /// that the record holds is one of the reader's inputs. "The reader answers the plan and the
-/// bytes used, 13 or 18"; body bytes past the chip's own are zero.
+/// bytes used, 13 or 18", 13 for chip 4; body bytes past the chip's own are zero.
 pub fn read_record(bytes: &[u8]) -> (u32, u8, u8, [u8; BODY], usize) {
     let refused = |refusal: u32| (refusal, 0, 0, [0; BODY], 0);
     if bytes.len() < 4 {
@@ -177,20 +208,19 @@ pub fn read_record(bytes: &[u8]) -> (u32, u8, u8, [u8; BODY], usize) {
         return refused(2);
     }
     let (chip, table, body) = (bytes[2], bytes[3], &bytes[4..]);
-    match judge(Plan { chip, table, body }) {
-        0 => (0, chip, table, own(chip, body), 4 + body_length(chip)),
-        refusal => refused(refusal),
+    match good(Plan { chip, table, body }) {
+        Ok((place, body)) => (0, chip, table, body, 4 + place.registers.len()),
+        Err(refusal) => refused(refusal),
     }
 }
 
 /// "Writing a plan record or a script checks the plan by 3, 4, 6, 7 and then 9", its body by 5.
 /// "An output longer than the result keeps its tail."
 pub fn write_record(plan: Plan, out: &mut [u8]) -> (u32, usize) {
-    let refusal = judge(plan);
-    if refusal != 0 {
-        return (refusal, 0);
-    }
-    let length = body_length(plan.chip);
+    let length = match good(plan) {
+        Ok((table, _)) => table.registers.len(),
+        Err(refusal) => return (refusal, 0),
+    };
     if out.len() < 4 + length {
         return (9, 0);
     }
@@ -202,37 +232,48 @@ pub fn write_record(plan: Plan, out: &mut [u8]) -> (u32, usize) {
 /// The script of a good plan and its number of writes. "Chip 1: FL1 to FL4 to FFh, then T1 to
 /// T4, critical, then FL1 to FL4 as planned; 13 writes. Chip 2: each high and low byte of C1
 /// to C5 to 00h in address order, then B1 to B4, then C1 to C5, high byte first; 24 writes."
-fn pairs(plan: Plan) -> ([u8; SCRIPT], usize) {
-    let length = body_length(plan.chip);
-    let first = base(plan.chip, plan.table);
-    let (temperatures, fastest) = if plan.chip == 1 { (5, 0xFF) } else { (4, 0x00) };
-    let mut script = [0; SCRIPT];
+/// Chip 4: "Its script goes as chip 1's, but selects a bank before the first write and again
+/// wherever the next register lies in another bank"; "a script writes the bank's number there, all
+/// other bits zero". Its tables lie in one bank each, so it has 14 writes.
+fn pairs(table: Table, body: &[u8; BODY]) -> ([[u8; 2]; SCRIPT / 2], usize) {
+    let Table { chip, registers } = table;
+    let fastest = match chip.curve {
+        Curve::Slope => 0xFF,
+        Curve::Counts => 0x00,
+    };
+    let mut script = [[0; 2]; SCRIPT / 2];
     let mut writes = 0;
-    let mut put = |k: usize, byte: u8| {
-        script[2 * writes] = first + k as u8;
-        script[2 * writes + 1] = byte;
+    let mut put = |address: u8, byte: u8| {
+        script[writes] = [address, byte];
         writes += 1;
     };
-    for k in temperatures..length {
-        put(k, fastest);
-    }
-    for (k, byte) in plan.body[..length].iter().enumerate() {
-        put(k, *byte);
+    let mut selected = None;
+    for (order, byte) in [(chip.speeds, Some(fastest)), (chip.temperatures, None), (chip.speeds, None)] {
+        for k in order {
+            let [bank, address] = (registers[*k] as u16).to_be_bytes();
+            match &chip.banks {
+                Some(banks) if selected != Some(bank) => put(banks.select, bank),
+                _ => {}
+            }
+            selected = Some(bank);
+            put(address, byte.unwrap_or(body[*k]));
+        }
     }
     (script, writes)
 }
 
 /// "A script is pairs of address and byte." "The answer says how many writes."
 pub fn script(plan: Plan, out: &mut [u8]) -> (u32, usize) {
-    let refusal = judge(plan);
-    if refusal != 0 {
-        return (refusal, 0);
-    }
-    let (script, writes) = pairs(plan);
+    let (script, writes) = match good(plan) {
+        Ok((table, body)) => pairs(table, &body),
+        Err(refusal) => return (refusal, 0),
+    };
     if out.len() < 2 * writes {
         return (9, 0);
     }
-    out[..2 * writes].copy_from_slice(&script[..2 * writes]);
+    for (out, pair) in out.chunks_exact_mut(2).zip(&script[..writes]) {
+        out.copy_from_slice(pair);
+    }
     (0, writes)
 }
 
@@ -240,17 +281,17 @@ pub fn script(plan: Plan, out: &mut [u8]) -> (u32, usize) {
 /// looks [at the identity] once, before the first write." "A play also takes how many writes to
 /// make; a number above the script's length means all. It answers how many it made."
 pub fn play(plan: Plan, image: &mut [u8], count: usize) -> (u32, usize) {
-    let mut refusal = judge(plan);
-    if refusal == 0 {
-        refusal = identity(plan.chip, image);
-    }
+    let (script, writes) = match good(plan) {
+        Ok((table, body)) => pairs(table, &body),
+        Err(refusal) => return (refusal, 0),
+    };
+    let refusal = identity(plan.chip, image);
     if refusal != 0 {
         return (refusal, 0);
     }
-    let (script, writes) = pairs(plan);
     let made = count.min(writes);
-    for pair in script[..2 * made].chunks(2) {
-        write(plan.chip, image, pair[0], pair[1]);
+    for [address, byte] in &script[..made] {
+        write(plan.chip, image, *address, *byte);
     }
     (0, made)
 }

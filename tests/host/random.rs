@@ -1,9 +1,15 @@
 //! A small seeded generator (xorshift) and the drafts it makes: boundary values come often.
 
-use crate::model::{self, Plan, IMAGE};
+use crate::chips::{chip_of, Curve};
+use crate::model::{self, Plan};
 
 const BYTES: [u8; 6] = [0, 1, 127, 128, 254, 255];
-const LENGTHS: [usize; 15] = [0, 3, 4, 12, 13, 17, 18, 25, 26, 47, 48, 255, 256, 257, 300];
+const LENGTHS: [usize; 20] = [
+    0, 3, 4, 12, 13, 17, 18, 25, 26, 27, 28, 47, 48, 255, 256, 257, 300, 1279, 1280, 1281,
+];
+
+/// The chips that have fan tables.
+pub const PLANNED: [u8; 3] = [1, 2, 4];
 
 pub struct Random(u64);
 
@@ -25,6 +31,13 @@ impl Draft {
         let mut bytes = vec![0x43, 0x50, self.chip, self.table];
         bytes.extend_from_slice(&self.body);
         bytes
+    }
+}
+
+/// Makes the image one that its chip confirms.
+fn identify(chip: u8, image: &mut [u8]) {
+    for (at, mask, held) in chip_of(chip).and_then(|chip| chip.identity).unwrap_or(&[]) {
+        image[*at] = image[*at] & !mask | held;
     }
 }
 
@@ -50,10 +63,11 @@ impl Random {
     }
 
     pub fn byte(&mut self) -> u8 {
-        if self.once_in(3) {
-            BYTES[self.below(BYTES.len())]
+        let drawn = self.next() >> 16;
+        if drawn % 3 == 0 {
+            BYTES[(drawn / 3 % 6) as usize]
         } else {
-            (self.next() >> 24) as u8
+            (drawn >> 16) as u8
         }
     }
 
@@ -74,16 +88,16 @@ impl Random {
         if self.once_in(8) {
             self.byte()
         } else {
-            1 + self.below(3) as u8
+            1 + self.below(4) as u8
         }
     }
 
-    /// Mostly a table near the good ones.
-    pub fn table(&mut self) -> u8 {
+    /// Mostly a table of the chip, or the number before or behind them.
+    pub fn table(&mut self, chip: u8) -> u8 {
         if self.once_in(12) {
             self.byte()
         } else {
-            self.below(5) as u8
+            self.below(model::tables(chip) + 2) as u8
         }
     }
 
@@ -129,45 +143,32 @@ impl Random {
         (0..self.below(49)).map(|_| self.sample(limits)).collect()
     }
 
-    /// An image: mostly 256 bytes, of any length at times; power-on bytes, power-on bytes with
-    /// one bit flipped, random bytes, or random bytes with the chip's identity.
+    /// An image: mostly of the chip's length, of any length at times; power-on bytes, power-on
+    /// bytes with one bit flipped, random bytes, or random bytes with the chip's identity.
     pub fn image(&mut self, chip: u8) -> Vec<u8> {
         if self.once_in(10) {
             let length = self.length();
             return self.bytes(length);
         }
         let kind = self.below(5);
-        let mut image = self.bytes(IMAGE);
+        let mut image = self.bytes(model::image_length(chip));
         if kind < 2 {
             model::reset(chip, &mut image);
         } else if kind < 4 {
-            self.identify(chip, &mut image);
+            identify(chip, &mut image);
         }
         if kind == 1 || kind == 3 {
-            image[self.below(IMAGE)] ^= 1 << self.below(8);
+            let at = self.below(image.len());
+            image[at] ^= 1 << self.below(8);
         }
         image
     }
 
     /// A random image whose identity is confirmed.
     pub fn confirmed(&mut self, chip: u8) -> Vec<u8> {
-        let mut image = self.bytes(IMAGE);
-        self.identify(chip, &mut image);
+        let mut image = self.bytes(model::image_length(chip));
+        identify(chip, &mut image);
         image
-    }
-
-    fn identify(&mut self, chip: u8, image: &mut [u8]) {
-        if chip == 1 {
-            image[0xFD] = 0x50;
-            image[0xFE] = 0xC3;
-            image[0xFF] = 0x20 | (self.byte() & 0x0F);
-            image[0x05] &= 0xE0;
-            image[0x08] &= 0xC0;
-        } else {
-            for (address, byte) in [(0x5A, 0x02), (0x5B, 0x04), (0x5D, 0x19), (0x5E, 0x34)] {
-                image[address] = byte;
-            }
-        }
     }
 
     fn four_temperatures(&mut self) -> Vec<u8> {
@@ -181,34 +182,47 @@ impl Random {
         }
     }
 
-    /// A body whose temperatures and speeds are in order.
+    /// A body whose temperatures and speeds are in order; where the chip has no fan table, one of
+    /// chip 2.
     pub fn ordered(&mut self, chip: u8) -> Vec<u8> {
         let mut body = self.four_temperatures();
-        if chip == 1 {
-            // Turning the top bit makes the order that of signed degrees.
-            let critical = body[3] + self.below(256 - usize::from(body[3])) as u8;
-            body.push(if self.once_in(4) { body[3] } else { critical });
-            body.iter_mut().for_each(|t| *t ^= 0x80);
-            let mut duties = self.bytes(4);
-            duties.sort_unstable();
-            body.extend(duties);
-        } else {
-            body.reverse();
-            let near = self.once_in(3);
-            let (high, low) = (self.byte(), self.byte());
-            let mut counts: Vec<[u8; 2]> = (0..5)
-                .map(|_| if near { [high, low ^ (self.byte() & 3)] } else { [self.byte(), self.byte()] })
-                .collect();
-            counts.sort_unstable();
-            body.extend(counts.concat());
+        match chip_of(chip) {
+            Some(chip) if chip.curve == Curve::Slope => {
+                let mut points = body;
+                // Turning the top bit makes the order that of signed degrees.
+                let critical = points[3] + self.below(256 - usize::from(points[3])) as u8;
+                points.push(if self.once_in(4) { points[3] } else { critical });
+                body = vec![0; 5];
+                for (at, t) in chip.temperatures.iter().zip(points) {
+                    body[*at] = t ^ 0x80;
+                }
+                let mut duties = self.bytes(4);
+                duties.sort_unstable();
+                body.extend(duties);
+            }
+            _ => {
+                body.reverse();
+                let near = self.once_in(3);
+                let (high, low) = (self.byte(), self.byte());
+                let mut counts: Vec<[u8; 2]> = (0..5)
+                    .map(|_| if near { [high, low ^ (self.byte() & 3)] } else { [self.byte(), self.byte()] })
+                    .collect();
+                counts.sort_unstable();
+                body.extend(counts.concat());
+            }
         }
         body
     }
 
     /// An accepted plan.
     pub fn good_plan(&mut self) -> Draft {
-        let chip = 1 + self.below(2) as u8;
-        let table = 1 + self.below(if chip == 1 { 3 } else { 2 }) as u8;
+        let chip = PLANNED[self.below(PLANNED.len())];
+        self.good_plan_of(chip)
+    }
+
+    /// An accepted plan of a chip that has fan tables.
+    pub fn good_plan_of(&mut self, chip: u8) -> Draft {
+        let table = 1 + self.below(model::tables(chip)) as u8;
         Draft { chip, table, body: self.ordered(chip) }
     }
 
@@ -219,7 +233,7 @@ impl Random {
         match self.below(10) {
             0 => {
                 draft.chip = self.chip();
-                draft.table = self.table();
+                draft.table = self.table(draft.chip);
             }
             1 => {
                 let from = self.below(length - 1);

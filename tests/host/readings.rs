@@ -37,6 +37,37 @@ pub fn microvolts(word: u16) -> u32 {
     u32::from(word / 64) * 2500
 }
 
+// ---- Readings of chip 4, "with the low three bits right-aligned in the low byte"
+
+/// Data sheet, section 7.1.10: the high byte is "11-bit 2's complement bit[10:3]", the low byte's
+/// bits 2 to 0 are "bit[2:0]", its others "Reserved". A step is 1/8 degree.
+pub fn right_steps(high: u8, low: u8) -> i16 {
+    8 * i16::from(high as i8) + i16::from(low % 8)
+}
+
+/// "Towards bytes then 12": 11 bits hold -1,024 to 1,023. "The other low bits are ignored on
+/// reading and written as zero."
+pub fn right_bytes(steps: i16) -> (u32, u8, u8) {
+    if !(-1024..=1023).contains(&steps) {
+        return (12, 0, 0);
+    }
+    (0, steps.div_euclid(8) as u8, steps.rem_euclid(8) as u8)
+}
+
+/// Section 6.4: "VSEN1~14 : Voltage(V) = 11bitCountValue x 0.002", "3VSB, 3VDD, VBAT,
+/// VSEN17,18,19 : Voltage(V) = 11bitCountValue x 0.006". An input is the address of its high byte
+/// in bank 0, section 7.1.10; where none stands the answer is 0.
+pub fn input_microvolts(input: u8, high: u8, low: u8) -> u32 {
+    let step = match input {
+        // VSEN1_HV to VSEN14_HV; the low bytes stand between them.
+        0x40..=0x5A if input % 2 == 0 => 2000,
+        // 3VDD_HV, VBAT_HV, V3VSB_HV; VSEN17_HV to VSEN19_HV. At 62h LTD_HV is a temperature.
+        0x5C | 0x5E | 0x60 | 0x64 | 0x66 | 0x68 => 6000,
+        _ => 0,
+    };
+    step * (8 * u32::from(high) + u32::from(low % 8))
+}
+
 // ---- The alarm watch (chip 3)
 
 const DEFAULT: u8 = 0;

@@ -1,7 +1,8 @@
 //! The random tests, as many rounds as are asked for.
 
 use crate::driver::{hold, Driver};
-use crate::model::{Plan, Watch, IMAGE, INPUT, SCRIPT};
+use crate::chips::{chip_of, Curve};
+use crate::model::{self, Plan, Watch, INPUT, SCRIPT};
 use crate::random::{Draft, Random};
 use crate::subject::Subject;
 use crate::tests::power_on;
@@ -80,20 +81,22 @@ pub fn plans<S: Subject>(d: &mut Driver<S>, r: &mut Random, rounds: usize) {
     for _ in 0..rounds {
         let draft = r.plan();
         d.judge(draft.plan());
-        let mut image = r.bytes(IMAGE);
-        let (length, first) = place(&draft);
-        let own = &draft.body[..length.min(draft.body.len())];
-        image[first..first + own.len()].copy_from_slice(own);
-        for t in 0..=255 {
-            let answer = d.asked_of_plan(draft.plan(), t);
-            let held = d.asked_of_image(draft.chip, draft.table, &image, t);
-            let want = if held.0 == 0 && own.len() < length { (5, 0) } else { held };
-            hold(answer == want, "plan and image ask the same", &(&draft, t));
+        let mut image = r.bytes(model::image_length(draft.chip));
+        let registers = model::registers(draft.chip, draft.table).unwrap_or(&[]);
+        for (at, byte) in registers.iter().zip(&draft.body) {
+            image[*at] = *byte;
         }
+        let planned = d.asked_of_plan_at_all(draft.plan());
+        let mut held = d.asked_of_image_at_all(draft.chip, draft.table, &image);
+        if draft.body.len() < registers.len() {
+            held = vec![(5, 0); 256];
+        }
+        hold(planned == held, "plan and image ask the same", &draft);
     }
     // "Asking a speed of an image checks 3, 4 and 8."
     for _ in 0..rounds {
-        let (chip, table) = (r.chip(), r.table());
+        let chip = r.chip();
+        let table = r.table(chip);
         let image = r.image(chip);
         d.asked_of_image(chip, table, &image, r.byte());
     }
@@ -122,15 +125,6 @@ pub fn cut_bodies<S: Subject>(d: &mut Driver<S>, r: &mut Random, rounds: usize) 
     }
 }
 
-/// Length of the body and first address of a plan's table (of some table, if it has none).
-fn place(draft: &Draft) -> (usize, usize) {
-    let table = usize::from(draft.table);
-    match draft.chip {
-        1 => (9, 0x80 + 0x10 * (table.clamp(1, 3) - 1)),
-        _ => (14, 0xA0 + 0x10 * (table.clamp(1, 2) - 1)),
-    }
-}
-
 /// Records read and written, scripts, with outputs of all lengths.
 pub fn records<S: Subject>(d: &mut Driver<S>, r: &mut Random, rounds: usize) {
     for _ in 0..rounds {
@@ -147,9 +141,8 @@ pub fn records<S: Subject>(d: &mut Driver<S>, r: &mut Random, rounds: usize) {
         let (refusal, count) = d.write_record(draft.plan(), &mut out);
         if refusal == 0 {
             let (_, chip, table, body, used) = d.read_record(&out);
-            let (length, _) = place(&draft);
-            let own = &draft.body[..length];
-            let equal = (chip, table, &body[..length], used) == (draft.chip, draft.table, own, count);
+            let own = &draft.body[..count - 4];
+            let equal = (chip, table, &body[..count - 4], used) == (draft.chip, draft.table, own, count);
             hold(equal, "plans come back equal from their record", &draft);
         }
         let mut out = vec![r.byte(); r.length()];
@@ -164,7 +157,7 @@ pub fn plays<S: Subject>(d: &mut Driver<S>, r: &mut Random, rounds: usize) {
         let chip = if r.once_in(9) { r.chip() } else { draft.chip };
         let mut image = r.image(chip);
         let count = match r.below(8) {
-            0 => [0, 1, 12, 13, 14, 23, 24, 25][r.below(8)],
+            0 => [0, 1, 12, 13, 14, 15, 24, 25][r.below(8)],
             1 => [255, 256, 257, 65536, 65539, usize::MAX / 2 + 1, usize::MAX - 1, usize::MAX][r.below(8)],
             _ => r.below(27),
         };
@@ -172,42 +165,56 @@ pub fn plays<S: Subject>(d: &mut Driver<S>, r: &mut Random, rounds: usize) {
     }
 }
 
-/// All speeds an image's table asks.
-fn asks<S: Subject>(d: &mut Driver<S>, plan: Plan, image: &[u8]) -> Vec<u16> {
-    (0..=255).map(|t| d.asked_of_image(plan.chip, plan.table, image, t).1).collect()
-}
-
 /// Whether no image on the way is slower, at any T, than the slower of old and plan: "More duty
 /// is faster; a smaller count is faster."
 pub fn never_slower<S: Subject>(d: &mut Driver<S>, plan: Plan, old: &[u8], script: &[u8]) -> bool {
-    let planned: Vec<u16> = (0..=255).map(|t| d.asked_of_plan(plan, t).1).collect();
-    let before = asks(d, plan, old);
+    let planned = d.asked_of_plan_at_all(plan);
+    let before = d.asked_of_image_at_all(plan.chip, plan.table, old);
+    let duties = chip_of(plan.chip).unwrap().curve == Curve::Slope;
     let mut image = old.to_vec();
     script.chunks(2).all(|pair| {
         d.write(plan.chip, &mut image, pair[0], pair[1]);
-        let now = asks(d, plan, &image);
-        (0..256).all(|t| match plan.chip {
-            1 => now[t] >= before[t].min(planned[t]),
-            _ => now[t] <= before[t].max(planned[t]),
+        let now = d.asked_of_image_at_all(plan.chip, plan.table, &image);
+        (0..256).all(|t| match duties {
+            true => now[t].1 >= before[t].1.min(planned[t].1),
+            false => now[t].1 <= before[t].1.max(planned[t].1),
         })
     })
 }
 
+/// An old image that the plan's chip confirms. Its curve is that of power-on, of another good
+/// plan, or any bytes; chip 4's bank select register holds any byte.
+fn old<S: Subject>(d: &mut Driver<S>, r: &mut Random, plan: Plan, round: usize) -> Vec<u8> {
+    let mut image = match round % 4 {
+        0 => power_on(d, plan.chip),
+        _ => r.confirmed(plan.chip),
+    };
+    if round % 4 == 1 {
+        let registers = model::registers(plan.chip, plan.table).unwrap();
+        for (at, byte) in registers.iter().zip(r.ordered(plan.chip)) {
+            image[*at] = byte;
+        }
+    }
+    if plan.chip == 4 {
+        image[0xFF] = r.next() as u8;
+    }
+    image
+}
+
 /// Demand 3 by brute force at all cuts: never slower than the slower of old and plan at every
-/// T, exactly the plan after the last write, every byte outside the table as before.
-pub fn cuts<S: Subject>(d: &mut Driver<S>, r: &mut Random, rounds: usize) {
+/// T, exactly the plan after the last write, every byte outside the table as before; "demand 3 lets
+/// the bank select register change as well".
+pub fn cuts<S: Subject>(d: &mut Driver<S>, r: &mut Random, chip: u8, rounds: usize) {
     for round in 0..rounds {
-        let draft = r.good_plan();
+        let draft = r.good_plan_of(chip);
         let plan = draft.plan();
-        let old = match round % 4 {
-            0 => power_on(d, draft.chip),
-            _ => r.confirmed(draft.chip),
-        };
+        let old = old(d, r, plan, round);
         let mut script = [0; SCRIPT];
         let (refusal, writes) = d.script(plan, &mut script);
-        hold((refusal, writes) == (0, if draft.chip == 1 { 13 } else { 24 }), "lengths 13 and 24", &draft);
+        let length = [13, 24, 0, 14][usize::from(chip) - 1];
+        hold((refusal, writes) == (0, length), "lengths 13, 24 and 14", &draft);
         hold(never_slower(d, plan, &old, &script[..2 * writes]), "never slower", &(&draft, &old));
-        let (length, first) = place(&draft);
+        let registers = model::registers(draft.chip, draft.table).unwrap();
         let mut stage = old.clone();
         for cut in (0..writes + 3).chain([255, usize::MAX]) {
             let mut image = old.clone();
@@ -217,13 +224,19 @@ pub fn cuts<S: Subject>(d: &mut Driver<S>, r: &mut Random, rounds: usize) {
                 d.write(draft.chip, &mut stage, script[2 * cut - 2], script[2 * cut - 1]);
             }
             hold(image == stage, "the first writes of the script", &(&draft, cut));
-            let outside = image[..first] == old[..first] && image[first + length..] == old[first + length..];
-            hold(outside, "every byte outside the table as before", &(&draft, cut));
-            if cut >= writes {
-                hold(image[first..first + length] == draft.body[..], "the plan's bytes", &draft);
-                let planned: Vec<u16> = (0..=255).map(|t| d.asked_of_plan(plan, t).1).collect();
-                hold(asks(d, plan, &image) == planned, "exactly the plan", &draft);
+            if cut == writes {
+                let table: Vec<u8> = registers.iter().map(|at| image[*at]).collect();
+                hold(table == draft.body, "the plan's bytes", &draft);
+                let now = d.asked_of_image_at_all(draft.chip, draft.table, &image);
+                hold(now == d.asked_of_plan_at_all(plan), "exactly the plan", &draft);
             }
+            registers.iter().for_each(|at| image[*at] = old[*at]);
+            if chip == 4 && cut > 0 {
+                let bank = if draft.table < 5 { 3 } else { 4 };
+                hold(image[0xFF] == old[0xFF] & 0xF8 | bank, "the bank selected", &(&draft, cut));
+                image[0xFF] = old[0xFF];
+            }
+            hold(image == old, "every byte outside the table as before", &(&draft, cut));
         }
     }
 }

@@ -11,6 +11,9 @@ pub trait Subject {
     fn steps_of(&self, width: u8, high: u8, low: u8) -> (u32, i16);
     fn bytes_of(&self, width: u8, steps: i16) -> (u32, u8, u8);
     fn microvolts(&self, word: u16) -> u32;
+    fn right_steps(&self, high: u8, low: u8) -> i16;
+    fn right_bytes(&self, steps: i16) -> (u32, u8, u8);
+    fn input_microvolts(&self, input: u8, high: u8, low: u8) -> u32;
     /// Refusal, the watch afterwards and its output.
     fn sample(&self, watch: Watch, steps: i16, high: i8, hysteresis: i8) -> (u32, Watch, bool);
     /// The watch after the last sample and its output.
@@ -46,6 +49,9 @@ impl Subject for Model {
     #[inline(never)] fn steps_of(&self, width: u8, high: u8, low: u8) -> (u32, i16) { model::steps_of(width, high, low) }
     #[inline(never)] fn bytes_of(&self, width: u8, steps: i16) -> (u32, u8, u8) { model::bytes_of(width, steps) }
     #[inline(never)] fn microvolts(&self, word: u16) -> u32 { model::microvolts(word) }
+    #[inline(never)] fn right_steps(&self, high: u8, low: u8) -> i16 { model::right_steps(high, low) }
+    #[inline(never)] fn right_bytes(&self, steps: i16) -> (u32, u8, u8) { model::right_bytes(steps) }
+    #[inline(never)] fn input_microvolts(&self, input: u8, high: u8, low: u8) -> u32 { model::input_microvolts(input, high, low) }
     #[inline(never)] fn sample(&self, watch: Watch, steps: i16, high: i8, hysteresis: i8) -> (u32, Watch, bool) { let (refusal, after) = model::sample(watch, steps, high, hysteresis); (refusal, after, model::output(after)) }
     #[inline(never)] fn run(&self, watch: Watch, samples: &[i16], high: i8, hysteresis: i8) -> (Watch, bool) { let after = model::run(watch, samples, high, hysteresis); (after, model::output(after)) }
     #[inline(never)] fn acknowledge(&self, watch: Watch) -> (Watch, bool) { let after = model::acknowledge(watch); (after, model::output(after)) }

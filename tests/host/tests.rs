@@ -2,7 +2,7 @@
 //! are checked on the agreed answers.
 
 use crate::driver::{hold, Driver, NAMES};
-use crate::model::{Plan, Watch, BODY, IMAGE, SCRIPT};
+use crate::model::{self, Plan, Watch, BODY, SCRIPT};
 use crate::random::{Draft, Random};
 use crate::rounds::{
     cut_bodies, cuts, damaged_records, images, plans, plays, records, runs, texts, watches,
@@ -15,8 +15,10 @@ pub fn run<S: Subject>(d: &mut Driver<S>, seed: u64, rounds: usize) {
     every_chip(d, r);
     every_body(d, r);
     every_write(d, r);
+    every_select(d, r);
     every_flip(d);
     every_reading(d);
+    every_right_reading(d);
     every_watch(d);
     every_run(d);
     long_runs(d);
@@ -29,22 +31,25 @@ pub fn run<S: Subject>(d: &mut Driver<S>, seed: u64, rounds: usize) {
         cut_bodies(d, r, 100);
         records(d, r, 8_000);
         plays(d, r, 4_000);
-        cuts(d, r, 16);
+        cuts(d, r, 1, 8);
+        cuts(d, r, 2, 8);
+        cuts(d, r, 4, 250);
         texts(d, r, 150);
     }
     for (name, calls) in NAMES.iter().zip(d.calls.iter()) {
-        println!("{:15} {:9}", name, calls);
+        println!("{:16} {:9}", name, calls);
     }
 }
 
 /// A power-on image.
 pub fn power_on<S: Subject>(d: &mut Driver<S>, chip: u8) -> Vec<u8> {
-    let mut image = vec![0xA5; IMAGE];
+    let mut image = vec![0xA5; model::image_length(chip)];
     hold(d.reset(chip, &mut image) == 0, "a reset is accepted", &chip);
     image
 }
 
-/// Every chip number with every table number, and with images of every length to 300.
+/// Every chip number with every table number, and with images of every length to 300 and about
+/// 1,280.
 fn every_chip<S: Subject>(d: &mut Driver<S>, r: &mut Random) {
     for chip in 0..=255 {
         for table in 0..=255 {
@@ -55,14 +60,17 @@ fn every_chip<S: Subject>(d: &mut Driver<S>, r: &mut Random) {
             d.asked_of_plan(draft.plan(), r.byte());
             d.asked_of_image(chip, table, &image, r.byte());
             d.read_record(&draft.record());
-            if table < 8 || r.once_in(32) {
+            if table < 12 || r.once_in(32) {
                 let mut out = vec![0x3C; r.length()];
                 d.script(draft.plan(), &mut out);
                 d.write_record(draft.plan(), &mut out);
                 d.play(draft.plan(), &mut image, r.below(26));
             }
         }
-        for length in (0..=300).filter(|_| chip < 5 || r.once_in(20)).collect::<Vec<usize>>() {
+        for length in (0..=300).chain(1279..=1281) {
+            if chip > 5 && !r.once_in(20) {
+                continue;
+            }
             let mut image = r.bytes(length);
             d.identity(chip, &image);
             d.read(chip, &image, r.byte());
@@ -87,9 +95,9 @@ fn every_body<S: Subject>(d: &mut Driver<S>, r: &mut Random) {
             for length in 0..=body.len() {
                 let plan = Plan { chip, table, body: &body[..length] };
                 let want = match (chip, table) {
-                    (1, 1..=3) | (2, 1..=2) if length < whole => 5,
-                    (1, 1..=3) | (2, 1..=2) => 0,
-                    (1..=3, _) => 4,
+                    (1, 1..=3) | (2, 1..=2) | (4, 1..=10) if length < whole => 5,
+                    (1, 1..=3) | (2, 1..=2) | (4, 1..=10) => 0,
+                    (1..=4, _) => 4,
                     _ => 3,
                 };
                 let refusals = [
@@ -104,11 +112,11 @@ fn every_body<S: Subject>(d: &mut Driver<S>, r: &mut Random) {
     }
 }
 
-/// Every address and byte of every chip on random images.
+/// Every address and byte of the chips without banks on random images.
 fn every_write<S: Subject>(d: &mut Driver<S>, r: &mut Random) {
     for chip in 1..=3 {
         for address in 0..=255 {
-            let mut image = r.bytes(IMAGE);
+            let mut image = r.bytes(model::image_length(chip));
             for byte in 0..=255 {
                 image[usize::from(address)] = r.byte();
                 d.write(chip, &mut image, address, byte);
@@ -118,17 +126,40 @@ fn every_write<S: Subject>(d: &mut Driver<S>, r: &mut Random) {
     }
 }
 
+/// Chip 4: every byte of the bank select register with every address. 7Ah, 7Bh, 7Ch and FFh are
+/// seen in every bank; "elsewhere in a bank the sheet lacks, writes change nothing and reads give 0".
+fn every_select<S: Subject>(d: &mut Driver<S>, r: &mut Random) {
+    for select in 0..=255 {
+        let mut image = r.bytes(1280);
+        for address in 0..=255 {
+            image[0xFF] = select;
+            let bank = if [0x7A, 0x7B, 0x7C, 0xFF].contains(&address) { 0 } else { select % 8 };
+            let at = 256 * usize::from(bank) + usize::from(address);
+            let held = image.get(at).copied();
+            let inputs = (select, address);
+            hold(d.read(4, &image, address) == (0, held.unwrap_or(0)), "where a read lands", &inputs);
+            let mut before = image.clone();
+            d.write(4, &mut image, address, r.byte());
+            if held.is_some() {
+                before[at] = image[at];
+            }
+            hold(image == before, "where a write lands", &inputs);
+        }
+    }
+}
+
 /// Power-on images with one bit flipped: identity, and a play that looks at it.
 fn every_flip<S: Subject>(d: &mut Driver<S>) {
-    for chip in 1..=3 {
+    for chip in 1..=4 {
         let image = power_on(d, chip);
-        for bit in 0..8 * IMAGE {
+        for bit in 0..8 * image.len() {
             let mut flipped = image.clone();
             flipped[bit / 8] ^= 1 << (bit % 8);
             let refusal = d.identity(chip, &flipped);
             let body = [0u8; BODY];
             let body: Vec<u8> = match chip {
                 1 => (0..9).collect(),
+                4 => [4, 1, 2, 3, 4, 5, 6, 7, 8].to_vec(),
                 _ => [4, 3, 2, 1].iter().chain(&body[4..]).copied().collect(),
             };
             let answer = d.play(Plan { chip, table: 1, body: &body }, &mut flipped, bit % 26);
@@ -163,6 +194,27 @@ fn every_reading<S: Subject>(d: &mut Driver<S>) {
     for word in 0..=65535 {
         let microvolts = d.microvolts(word);
         hold(microvolts == (u32::from(word) >> 6) * 2500, "2,500 microvolts", &word);
+    }
+}
+
+/// The same of chip 4, whose eleven bits are those of width 11 in other places; every voltage of an
+/// input of either kind, and every input.
+fn every_right_reading<S: Subject>(d: &mut Driver<S>) {
+    for word in 0..=65535u16 {
+        let [high, low] = word.to_be_bytes();
+        let steps = d.right_steps(high, low);
+        hold(d.steps_of(11, high, low << 5) == (0, steps), "the bits of width 11", &word);
+        hold(d.right_bytes(steps) == (0, high, low % 8), "ignored bits are cleared", &word);
+        let (refusal, high, low) = d.right_bytes(word as i16);
+        hold(refusal == d.bytes_of(11, word as i16).0, "the range of width 11", &word);
+        if refusal == 0 {
+            hold(d.right_steps(high, low) == word as i16, "steps come back", &word);
+        }
+        let [high, low] = word.to_be_bytes();
+        let count = 8 * u32::from(high) + u32::from(low % 8);
+        hold(d.input_microvolts(0x40, high, low) == 2000 * count, "2,000 microvolts", &word);
+        hold(d.input_microvolts(0x5C, high, low) == 6000 * count, "6,000 microvolts", &word);
+        d.input_microvolts((word % 257) as u8, high, low);
     }
 }
 

@@ -29,28 +29,6 @@ pub(crate) fn slope_bytes(temperatures: [u8; 4], critical: u8, duties: [u8; 4]) 
     ]
 }
 
-// Critical first.
-pub(crate) fn leading_bytes(temperatures: [u8; 4], critical: u8, duties: [u8; 4]) -> [u8; LONGEST]
-    ensures { λ r. ⌜ r ≡ column 14 (λ k. getD (critical ∷ (temperatures ++ duties)) k 0) ⌝ }
-{
-    [
-        critical,
-        temperatures[0],
-        temperatures[1],
-        temperatures[2],
-        temperatures[3],
-        duties[0],
-        duties[1],
-        duties[2],
-        duties[3],
-        0,
-        0,
-        0,
-        0,
-        0,
-    ]
-}
-
 fn high(count: u16) -> u8
     ensures { λ r. ⌜ r ≡ count / 256 ⌝ }
 {

@@ -1,6 +1,7 @@
 // A plan's body, its values in register order: taken from bytes, and laid out.
 mod decoding;
 mod encoding;
+mod leading;
 
 use curves::NO_SLOPE;
 use curves::NO_STEPS;
@@ -41,7 +42,7 @@ pub fn body_of(shape: Shape, leading: bool, plan: Plan) -> [u8; LONGEST]
             let temperatures = values.temperatures;
             let duties = values.duties;
             if leading {
-                return encoding::leading_bytes(temperatures, values.critical, duties);
+                return leading::slope_bytes(temperatures, values.critical, duties);
             }
             encoding::slope_bytes(temperatures, values.critical, duties)
         }

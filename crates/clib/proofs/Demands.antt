@@ -1,4 +1,4 @@
--- Demand 1 holds: each contract says what it answers and what it leaves by its own list of checks. Demand 2 holds: the round trips are those of `readings` and `records`, and an image that is accepted has passed the check of its identity.
+-- Demand 1 holds: each contract says what it answers and what it leaves by its own list of checks. Demand 2 holds: the round trips are those of `readings`, `right_readings` and `records`, and an image that is accepted has passed the check of its identity.
 -- Assumes nothing.
 use Prim.Native.Nat.{ℕ, _+_, _*_, min}
 use mathlib.Core.Path.{_≡_, refl, sym, ap, _∙_}
@@ -30,9 +30,9 @@ use Rattle.images.specs.Contracts.{imageChecks, tellsAdmitted}
 use Rattle.images.proofs.Admission.{admits-told}
 use Rattle.identities.specs.Contracts.{identityChecks, Confirms}
 use Rattle.readings.specs.Readings.{asWord, stepsFrom, voltage}
-use Rattle.readings.specs.Inputs.{inputVoltage}
 use Rattle.readings.proofs.RoundTrip.{steps-come-back, bytes-come-back-cleared}
-use Rattle.readings.proofs.Aligned.{right-steps-come-back, right-bytes-come-back-cleared}
+use Rattle.right_readings.specs.Inputs.{inputVoltage}
+use Rattle.right_readings.proofs.RoundTrip.{right-steps-come-back, right-bytes-come-back-cleared}
 use Rattle.watch.specs.declared.Watch.{Watch}
 use Rattle.watch.specs.declared.Sampled.{Sampled}
 use Rattle.watch.specs.Alarm.{fresh, taken, isSample, acknowledged, shown, run, recorded}

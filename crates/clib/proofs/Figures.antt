@@ -29,8 +29,9 @@ use Rattle.images.specs.Bytes.{selected, position, seen}
 use Rattle.images.specs.Contracts.{imageChecks}
 use Rattle.identities.specs.Contracts.{identityChecks}
 use Rattle.readings.specs.Readings as readings
-use Rattle.readings.specs.Contracts.{stepsChecks, bytesChecks, rightChecks}
-use Rattle.readings.specs.Inputs.{inputVoltage}
+use Rattle.readings.specs.Contracts.{stepsChecks, bytesChecks}
+use Rattle.right_readings.specs.Inputs.{inputVoltage}
+use Rattle.right_readings.specs.Contracts.{rightChecks}
 use Rattle.watch.specs.declared.Watch.{Watch}
 use Rattle.watch.specs.Alarm as alarm
 use Rattle.watch.specs.Contracts.{sampleChecks}

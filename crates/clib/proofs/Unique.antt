@@ -9,6 +9,7 @@ use lib.IntN.{ℤ}
 use Rattle.images.proofs.Unique as images
 use Rattle.identities.proofs.Unique as identities
 use Rattle.readings.proofs.Unique as readings
+use Rattle.right_readings.proofs.Unique as right
 use Rattle.watch.proofs.Unique as watch
 use Rattle.plans.proofs.Unique as plans
 use Rattle.records.proofs.Unique as records
@@ -54,13 +55,13 @@ pub microvolts-unique : {word : ℕ} {r s : ℕ} → YkMicrovolts word r → YkM
 microvolts-unique p q = answers-unique (λ a b k l. readings.measures-unique k l) p q
 
 pub right-steps-unique : {high low : ℕ} {r s : ℕ} → YkRightSteps high low r → YkRightSteps high low s → r ≡ s
-right-steps-unique p q = answers-unique (λ a b k l. readings.counts-right-unique k l) p q
+right-steps-unique p q = answers-unique (λ a b k l. right.counts-right-unique k l) p q
 
 pub right-bytes-unique : {steps : ℤ} {r s : ℕ} → YkRightBytes steps r → YkRightBytes steps s → r ≡ s
-right-bytes-unique p q = answers-unique (λ a b k l. readings.writes-right-unique k l) p q
+right-bytes-unique p q = answers-unique (λ a b k l. right.writes-right-unique k l) p q
 
 pub input-microvolts-unique : {input high low : ℕ} {r s : ℕ} → YkInputMicrovolts input high low r → YkInputMicrovolts input high low s → r ≡ s
-input-microvolts-unique p q = answers-unique (λ a b k l. readings.measures-input-unique k l) p q
+input-microvolts-unique p q = answers-unique (λ a b k l. right.measures-input-unique k l) p q
 
 pub sample-unique : (behaviour facts : ℕ) (steps high hysteresis : ℤ) {r s : ℕ} → YkSample behaviour facts steps high hysteresis r → YkSample behaviour facts steps high hysteresis s → r ≡ s
 sample-unique behaviour facts steps high hysteresis p q = answers-unique (λ a b k l. watch.samples-unique k l) p q

@@ -7,6 +7,7 @@ use Rattle.images.specs.Contracts as images
 use Rattle.identities.specs.Contracts as identities
 use Rattle.readings.specs.Readings.{asWord}
 use Rattle.readings.specs.Contracts as readings
+use Rattle.right_readings.specs.Contracts as right
 use Rattle.watch.specs.Contracts as watch
 use Rattle.plans.specs.Contracts as plans
 use Rattle.records.specs.Contracts as records
@@ -42,13 +43,13 @@ YkMicrovolts word r = Answers (λ v. packed 0 v) (λ v. readings.Measures word v
 
 -- a count of steps, as a 16-bit two's complement number
 abbrev pub YkRightSteps : ℕ → ℕ → ℕ → Type 0
-YkRightSteps high low r = Answers (λ n. packed 0 (asWord n)) (λ n. readings.CountsRight high low n) r
+YkRightSteps high low r = Answers (λ n. packed 0 (asWord n)) (λ n. right.CountsRight high low n) r
 
 abbrev pub YkRightBytes : ℤ → ℕ → Type 0
-YkRightBytes steps r = Answers packsBytes (λ a. readings.GivesRight steps a) r
+YkRightBytes steps r = Answers packsBytes (λ a. right.GivesRight steps a) r
 
 abbrev pub YkInputMicrovolts : ℕ → ℕ → ℕ → ℕ → Type 0
-YkInputMicrovolts input high low r = Answers (λ v. packed 0 v) (λ v. readings.MeasuresInput input high low v) r
+YkInputMicrovolts input high low r = Answers (λ v. packed 0 v) (λ v. right.MeasuresInput input high low v) r
 
 -- a refused sample answers the facts as they were
 abbrev pub YkSample : ℕ → ℕ → ℤ → ℤ → ℤ → ℕ → Type 0

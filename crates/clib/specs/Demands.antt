@@ -35,6 +35,7 @@ use Rattle.readings.specs.declared.Bytes.{Bytes}
 use Rattle.readings.specs.declared.Bytes.the-variants.{Pair}
 use Rattle.readings.specs.Readings.{cleared}
 use Rattle.readings.specs.Contracts as readings
+use Rattle.right_readings.specs.Contracts as right
 use Rattle.watch.specs.declared.Behaviour.{Behaviour}
 use Rattle.watch.specs.declared.Watch.{Watch}
 use Rattle.watch.specs.declared.Sampled.{Sampled}
@@ -114,9 +115,9 @@ pub record Demand1 : Type 0 where
   pub bytes-of : (width : ℕ) (steps : ℤ) (r : Bytes) → readings.GivesBytes width steps r
       → Answered (readings.bytesChecks width steps) (0, 0) (readings.tellsBytes r)
   pub microvolts : (word : ℕ) → Given (λ v. readings.Measures word v)
-  pub right-steps : (high low : ℕ) → Given (λ n. readings.CountsRight high low n)
-  pub right-bytes : (steps : ℤ) (r : Bytes) → readings.GivesRight steps r → Answered (readings.rightChecks steps) (0, 0) (readings.tellsBytes r)
-  pub input-microvolts : (input high low : ℕ) → Given (λ v. readings.MeasuresInput input high low v)
+  pub right-steps : (high low : ℕ) → Given (λ n. right.CountsRight high low n)
+  pub right-bytes : (steps : ℤ) (r : Bytes) → right.GivesRight steps r → Answered (right.rightChecks steps) (0, 0) (readings.tellsBytes r)
+  pub input-microvolts : (input high low : ℕ) → Given (λ v. right.MeasuresInput input high low v)
   -- the watch: "a watch comes back unchanged"
   pub watch-new : (behaviour : Behaviour) → Given (λ w. watch.Starts behaviour w)
   pub watch-sample : (w : Watch) (steps high hysteresis : ℤ) (r : Sampled) → watch.Samples w steps high hysteresis r
@@ -161,7 +162,7 @@ pub record Demand1 : Type 0 where
   pub yk-bytes : (width : ℕ) (steps : ℤ) (r : ℕ) → YkBytes width steps r → Answered (readings.bytesChecks width steps) 0 (unpacked r)
   pub yk-microvolts : (word r : ℕ) → YkMicrovolts word r → Answered [] 0 (unpacked r)
   pub yk-right-steps : (high low r : ℕ) → YkRightSteps high low r → Answered [] 0 (unpacked r)
-  pub yk-right-bytes : (steps : ℤ) (r : ℕ) → YkRightBytes steps r → Answered (readings.rightChecks steps) 0 (unpacked r)
+  pub yk-right-bytes : (steps : ℤ) (r : ℕ) → YkRightBytes steps r → Answered (right.rightChecks steps) 0 (unpacked r)
   pub yk-input-microvolts : (input high low r : ℕ) → YkInputMicrovolts input high low r → Answered [] 0 (unpacked r)
   pub yk-sample : (behaviour facts : ℕ) (steps high hysteresis : ℤ) (r : ℕ) → YkSample behaviour facts steps high hysteresis r
       → Answered (watch.sampleChecks steps) (factsOf (watchOf behaviour facts)) (unpacked r)
@@ -189,8 +190,8 @@ pub record Demand2 : Type 0 where
   pub bytes-and-back : (width high low : ℕ) (n : ℤ) (r : Bytes) → high < 256 → low < 256 → readings.CountsSteps width high low (Counted n) → readings.GivesBytes width n r
       → r ≡ Pair (cleared width high low .0) (cleared width high low .1)
   -- the same of chip 4, whose ignored bits are all but the low three
-  pub right-steps-and-back : (high low : ℕ) (m n : ℤ) → readings.GivesRight n (Pair high low) → readings.CountsRight high low m → m ≡ n
-  pub right-bytes-and-back : (high low : ℕ) (n : ℤ) (r : Bytes) → high < 256 → readings.CountsRight high low n → readings.GivesRight n r → r ≡ Pair high (low % 8)
+  pub right-steps-and-back : (high low : ℕ) (m n : ℤ) → right.GivesRight n (Pair high low) → right.CountsRight high low m → m ≡ n
+  pub right-bytes-and-back : (high low : ℕ) (n : ℤ) (r : Bytes) → high < 256 → right.CountsRight high low n → right.GivesRight n r → r ≡ Pair high (low % 8)
   -- "plan records go to plans and back": the plan of a record has that record, where there is room for it ..
   pub record-and-back : (bytes : List ℕ) (n : ℕ) (found : Found) (old : List ℕ) (r : Amount) (new : List ℕ) → ((k : ℕ) → getD bytes k 0 < 256)
       → records.ReadsRecord bytes found → found .answer ≡ Of n → records.WritesRecord (found .plan) old r new → n ≤ length old

@@ -30,7 +30,7 @@ pub extern "C" fn yk_microvolts(word: u16) -> u64
 pub extern "C" fn yk_right_steps(high: u8, low: u8) -> u64
     ensures { λ r. ⌜ YkRightSteps high low r ⌝ }
 {
-    let steps = readings::right_steps(high, low);
+    let steps = right_readings::right_steps(high, low);
     let word = readings::as_word(steps);
     packing::packed(0, word as u64)
 }
@@ -39,7 +39,7 @@ pub extern "C" fn yk_right_steps(high: u8, low: u8) -> u64
 pub extern "C" fn yk_right_bytes(steps: i16) -> u64
     ensures { λ r. ⌜ YkRightBytes steps r ⌝ }
 {
-    let bytes = readings::right_bytes(steps);
+    let bytes = right_readings::right_bytes(steps);
     packing::of_bytes(bytes)
 }
 
@@ -47,6 +47,6 @@ pub extern "C" fn yk_right_bytes(steps: i16) -> u64
 pub extern "C" fn yk_input_microvolts(input: u8, high: u8, low: u8) -> u64
     ensures { λ r. ⌜ YkInputMicrovolts input high low r ⌝ }
 {
-    let microvolts = readings::input_microvolts(input, high, low);
+    let microvolts = right_readings::input_microvolts(input, high, low);
     packing::packed(0, microvolts as u64)
 }

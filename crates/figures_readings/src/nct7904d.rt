@@ -10,7 +10,7 @@ fn begin() {
 fn from_bytes(high: u8, low: u8) {
     begin();
     crate::bytes(high, low);
-    crate::steps(readings::right_steps(high, low));
+    crate::steps(right_readings::right_steps(high, low));
     figures_printing::line_end();
 }
 
@@ -21,11 +21,11 @@ fn ignoring(high: u8, low: u8) {
 }
 
 fn write_and_read(n: i16) {
-    match readings::right_bytes(n) {
+    match right_readings::right_bytes(n) {
         Bytes::Refused(r) => figures_printing::refused(r),
         Bytes::Pair(high, low) => {
             crate::bytes(high, low);
-            crate::steps(readings::right_steps(high, low));
+            crate::steps(right_readings::right_steps(high, low));
         }
     }
 }
@@ -38,7 +38,7 @@ fn from_steps(n: i16) {
 }
 
 fn are_bytes(n: i16, word: u16) -> bool {
-    match readings::right_bytes(n) {
+    match right_readings::right_bytes(n) {
         Bytes::Refused(_) => false,
         Bytes::Pair(high, low) => high as u16 * 256 + low as u16 == word,
     }
@@ -46,7 +46,7 @@ fn are_bytes(n: i16, word: u16) -> bool {
 
 // The bits that count are those of the high byte and the low three.
 fn tallied(tally: Tally, word: u16) -> Tally {
-    let n = readings::right_steps(crate::high(word), crate::low(word));
+    let n = right_readings::right_steps(crate::high(word), crate::low(word));
     Tally {
         back: crate::counted(tally.back, are_bytes(n, word & 0xFF07)),
         sum: std::num::wrapping_add_u16(tally.sum, readings::as_word(n)),
@@ -75,7 +75,7 @@ fn voltage(input: u8, high: u8, low: u8) {
     crate::bytes(high, low);
     figures_printing::labelled(
         b" microvolts ",
-        readings::input_microvolts(input, high, low) as u64,
+        right_readings::input_microvolts(input, high, low) as u64,
     );
     figures_printing::line_end();
 }
@@ -95,7 +95,7 @@ fn counts(input: u8) {
     voltage(input, 0x00, 0xF8);
 }
 
-// The request's figures, the sheet's table of temperatures, and the ends of what fits.
+// Some figures, the sheet's table of temperatures, and the ends of what fits.
 pub fn print_all() {
     ignoring(0xE6, 0x02);
     ignoring(0x80, 0x00);

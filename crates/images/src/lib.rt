@@ -77,12 +77,13 @@ pub fn read(chip: u8, image: &[u8], address: u8) -> ByteRead
     }
 }
 
-// The power-on column of a chip's card, filled into a working image. No chip's image is longer.
-fn power_on_image(chip: Chip) -> [u8; GREATEST]
-    ensures { λ r. ⌜ r ≡ column greatest (λ position. rowOf chip position .power) ⌝ }
+// The power-on column of a chip's card, filled into a working image as far as the chip's image is long. None is longer.
+fn power_on_image(chip: Chip, size: usize) -> [u8; GREATEST]
+    requires { ⌜ size ≤ greatest ⌝ }
+    ensures { λ r. ⌜ take size r ≡ column size (λ position. rowOf chip position .power) ⌝ }
 {
     let mut working = [0u8; GREATEST];
-    for at in 0..GREATEST {
+    for at in 0..size {
         working[at] = cards::power_on_of(chip, at);
     }
     working
@@ -104,7 +105,7 @@ pub fn reset(chip: u8, image: &mut [u8]) -> Outcome
     match admit(chip, image.len()) {
         Admitted::Refused(refusal) => Outcome::Refused(refusal),
         Admitted::Known(known) => {
-            let working = power_on_image(known);
+            let working = power_on_image(known, image.len());
             copy(image, working);
             Outcome::Accepted
         }

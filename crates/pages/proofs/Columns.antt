@@ -1,10 +1,10 @@
 -- A column has a number for each position, that of the position; and a register's masks go by the card's columns.
 -- Assumes nothing.
-use Prim.Native.Nat.{ℕ, zero, suc, _+_, _≤_, _<_}
+use Prim.Native.Nat.{ℕ, zero, suc, _+_, _<_}
 use native.Mathlib.Nat.{add-zero, zero-add, add-suc, suc-add, le-of-suc-le-suc, not-suc-le-zero}
 use mathlib.Core.Path.{_≡_, refl, sym, ap, _∙_}
-use mathlib.Core.List.{List, _∷_}
-use lib.ListN.{length, getD, take}
+use mathlib.Core.List.{List}
+use lib.ListN.{length, getD}
 use Rattle.pages.specs.Rows.{Line, row, masksIn, rowIn, eachFrom, column}
 
 pub run-length : (f : ℕ → ℕ) (first n : ℕ) → length (eachFrom f first n) ≡ n
@@ -24,16 +24,6 @@ column-length n f = run-length f 0 n
 pub column-at : (n : ℕ) (f : ℕ → ℕ) (position : ℕ) → position < n → getD (column n f) position 0 ≡ f position
 unfolding column
 column-at n f position h = run-at f 0 n position h ∙ ap f (zero-add position)
-
-run-front : (f : ℕ → ℕ) (first m n : ℕ) → n ≤ m → take n (eachFrom f first m) ≡ eachFrom f first n
-run-front f first m zero h = refl
-run-front f first zero (suc n) h = absurd (not-suc-le-zero h)
-run-front f first (suc m) (suc n) h = ap (λ (l : List ℕ). f first ∷ l) (run-front f (suc first) m n (le-of-suc-le-suc h))
-
--- the front of a column is a shorter one
-pub column-front : (m n : ℕ) (f : ℕ → ℕ) → n ≤ m → take n (column m f) ≡ column n f
-unfolding column
-column-front m n f h = run-front f 0 m n h
 
 -- a register's masks: what the card's column of writable bits holds at its position, and its bits that clear on one
 pub masks-of-column : (n : ℕ) (lines : List Line) (position clears : ℕ) → position < n → clears ≡ rowIn lines position .clears

@@ -1,17 +1,23 @@
 -- "Fixed points for review", as one list under one claim: each card has the rows that the rules paper names, and each image its bytes.
 -- Assumes nothing.
-use Prim.Native.Nat.{ℕ}
+use Prim.Native.Nat.{ℕ, _*_}
 use mathlib.Core.Path.{refl}
 use mathlib.Core.Bool.{Bool, So, true, _&&_}
 use mathlib.Core.List.{List, [], _∷_, _++_}
 use lib.Dec.{eqb}
 use Rattle.pages.specs.declared.Chip.{Chip}
-use Rattle.pages.specs.declared.Chip.the-variants.{Nct7802y, F75373s, Nct80}
+use Rattle.pages.specs.declared.Chip.the-variants.{Nct7802y, F75373s, Nct80, Nct7904d}
 use Rattle.pages.specs.Rows.{Table}
 use Rattle.pages.specs.Cards.{sheetOf, sizeOf, rowOf, tablesOf}
 use Rattle.pages.specs.Nct7802y as nct7802y
 use Rattle.pages.specs.F75373s as f75373s
 use Rattle.pages.specs.Nct80 as nct80
+use Rattle.pages.specs.Nct7904d as nct7904d
+use Rattle.pages.specs.Nct7904dBank0 as bank0
+use Rattle.pages.specs.Nct7904dBank1 as bank1
+use Rattle.pages.specs.Nct7904dBank2 as bank2
+use Rattle.pages.specs.Nct7904dBank3 as bank3
+use Rattle.pages.specs.Nct7904dBank4 as bank4
 
 -- a number that the paper gives: what the page says, and what the paper says
 abbrev pub Point : Type 0
@@ -39,6 +45,8 @@ unfoldable pub points : List Point
 points =
     -- refusal 8: "a register image is not 256 bytes long"
     (sizeOf Nct7802y, 256) ∷ (sizeOf F75373s, 256) ∷ (sizeOf Nct80, 256)
+    -- of chip 4 "An image holds all banks, one after the other": five
+    ∷ (sizeOf Nct7904d, 5 * 256)
     -- "chip 1, 54h and 56h mask 3Fh, power-on 3Fh; 55h and 57h mask 3Fh, power-on 00h"
     ∷ (writable Nct7802y 0x54, 0x3F) ∷ (power Nct7802y 0x54, 0x3F) ∷ (writable Nct7802y 0x56, 0x3F) ∷ (power Nct7802y 0x56, 0x3F)
     ∷ (writable Nct7802y 0x55, 0x3F) ∷ (power Nct7802y 0x55, 0x00) ∷ (writable Nct7802y 0x57, 0x3F) ∷ (power Nct7802y 0x57, 0x00)
@@ -53,12 +61,12 @@ points =
     -- "Chip 3, 00h mask FFh, power-on 08h; 01h read only; 09h mask 07h"
     ∷ (writable Nct80 0x00, 0xFF) ∷ (power Nct80 0x00, 0x08) ∷ (writable Nct80 0x01, 0x00) ∷ (clears Nct80 0x01, 0x00)
     ∷ (writable Nct80 0x09, 0x07)
-    ∷ tableMasks Nct7802y (tablesOf Nct7802y) ++ tableMasks F75373s (tablesOf F75373s)
+    ∷ tableMasks Nct7802y (tablesOf Nct7802y) ++ (tableMasks F75373s (tablesOf F75373s) ++ tableMasks Nct7904d (tablesOf Nct7904d))
 
 unfoldable pub agree : List Point → Bool
 agree [] = true
 agree (p ∷ ps) = eqb (p .0) (p .1) && agree ps
 
 pub fixed-points : So (agree points)
-unfolding agree points sheetOf rowOf nct7802y.card f75373s.card nct80.card
+unfolding agree points sheetOf rowOf nct7802y.card f75373s.card nct80.card nct7904d.card bank0.bank bank1.bank bank2.bank bank3.bank bank4.bank
 fixed-points = refl

@@ -4,8 +4,8 @@
 use Prim.Native.Nat.{ℕ, zero, suc, _≤_, _<_}
 use native.Mathlib.Nat.{le-of-suc-le-suc, not-suc-le-zero}
 use native.Mathlib.Omega.{arith}
-use mathlib.Core.Path.{_≡_, refl, sym, ap}
-use mathlib.Core.Bool.{So}
+use mathlib.Core.Path.{_≡_, refl, sym, ap, _∙_}
+use mathlib.Core.Bool.{false, So, true≢false}
 use mathlib.Core.List.{List, [], _∷_}
 use borrow.Author.Tests.{leb-true, ltb-true, eq-eqb, ne-eqb}
 use lib.Dec.{leb, ltb}
@@ -13,11 +13,11 @@ use lib.ListN.{length, getD}
 use Rattle.pages.specs.declared.Chip.{Chip}
 use Rattle.pages.specs.Rows.{every, Line, Row, row, rowIn, masksIn, column}
 use Rattle.pages.specs.Sheets.{Sheet, powerOnIn}
-use Rattle.pages.specs.Cards.{sheetOf, cardOf, rowOf, sizeOf, powerOn}
+use Rattle.pages.specs.Cards.{sheetOf, cardOf, banksOf, rowOf, sizeOf, powerOn}
 use Rattle.pages.proofs.Columns.{column-at, masks-of-column}
-use Rattle.pages.proofs.Carried.{unclearing, clears-none}
+use Rattle.pages.proofs.Carried.{carried, unclearing, clears-none}
 use Rattle.pages.proofs.Every.{both}
-use Rattle.pages.proofs.Sound.{rising, Sound, sound-sheet}
+use Rattle.pages.proofs.Sound.{seenAt, rising, Sound, sound-sheet}
 
 -- the line at a place of the card
 abbrev pub lineAt : List Line → ℕ → Line
@@ -78,6 +78,16 @@ module _ (chip : Chip) (k : ℕ) (there : k < length (cardOf chip)) where
   pub line-counts : rowOf chip (lineAt (cardOf chip) k .0) ≡ row (lineAt (cardOf chip) k .1) (lineAt (cardOf chip) k .2) (lineAt (cardOf chip) k .3)
   unfolding rowOf
   line-counts = sheet-counts (sheetOf chip) (sound-sheet chip) k there
+
+-- a position at which no access lands, as the copy of a register seen in every bank, has no register
+sheet-dead : (sheet : Sheet) → Sound sheet → (position : ℕ) → seenAt (sheet .banks) position ≡ false → rowIn (sheet .card) position ≡ row 0x00 0x00 0x00
+sheet-dead sheet S position =
+    carried (λ a r. seenAt (sheet .banks) a ≡ false → r ≡ row 0x00 0x00 0x00) (λ l. seenAt (sheet .banks) (l .0)) (λ a e. refl)
+    (λ l t e. absurd (true≢false (sym t ∙ e))) (sheet .card) (S .places) position
+
+pub row-dead : (chip : Chip) (position : ℕ) → seenAt (banksOf chip) position ≡ false → rowOf chip position ≡ row 0x00 0x00 0x00
+unfolding rowOf
+row-dead chip position = sheet-dead (sheetOf chip) (sound-sheet chip) position
 
 -- what a chip's columns have at a position is its row; behind the image's end there is none
 module _ (chip : Chip) (position : ℕ) where

@@ -6,7 +6,7 @@ use mathlib.Core.Bool.{So}
 use mathlib.Core.List.{List, [], _∷_}
 use lib.ListN.{length, getD}
 use Rattle.pages.specs.declared.Chip.{Chip}
-use Rattle.pages.specs.declared.Chip.the-variants.{Nct7802y, F75373s, Nct80}
+use Rattle.pages.specs.declared.Chip.the-variants.{Nct7802y, F75373s, Nct80, Nct7904d}
 use Rattle.pages.specs.Rows.{Reading, positions}
 use Rattle.pages.specs.Cards.{sheetOf, tablesOf, tableOf}
 use Rattle.pages.proofs.FixedPoints.{Point, agree}
@@ -30,6 +30,26 @@ high number k = getD (tableOf F75373s number .speeds) (2 * (k - 1)) 0
 
 abbrev low : ℕ → ℕ → ℕ
 low number k = getD (tableOf F75373s number .speeds) (2 * (k - 1) + 1) 0
+
+-- and those of a table of chip 4: critical, T1 to T4, P1 to P4
+abbrev critical4 : ℕ → ℕ
+critical4 number = getD (tableOf Nct7904d number .settings) 4 0
+
+abbrev t4 : ℕ → ℕ → ℕ
+t4 number k = getD (tableOf Nct7904d number .settings) (k - 1) 0
+
+abbrev p4 : ℕ → ℕ → ℕ
+p4 number k = getD (tableOf Nct7904d number .speeds) (k - 1) 0
+
+-- where the bytes of its k-th temperature stand
+abbrev reading4 : ℕ → Reading
+reading4 k = getD (sheetOf Nct7904d .temperatures) k (record { width = 0; high = []; low = 0x00; bits = 0x00; unit = 0 })
+
+abbrev highOf : ℕ → ℕ
+highOf k = getD (reading4 k .high) 0 0
+
+abbrev lowOf : ℕ → ℕ
+lowOf k = reading4 k .low
 
 -- where a chip's temperatures stand
 abbrev temperature : Chip → Reading
@@ -63,6 +83,37 @@ registers =
     ∷ (getD (temperature Nct7802y .high) 0 0, 0x01) ∷ (getD (temperature Nct7802y .high) 1 0, 0x02) ∷ (getD (temperature Nct7802y .high) 2 0, 0x03)
     -- "chip 3: 27h and bits 7 to 4 of 06h"
     ∷ (temperature Nct80 .low, 0x06) ∷ (temperature Nct80 .bits, 0xF0) ∷ (length (temperature Nct80 .high), 1) ∷ (getD (temperature Nct80 .high) 0 0, 0x27)
+    -- chip 4, source document 003, 7.4.16: "T1CTFS - Bank 3 Address 20" to "T4CTFS - Bank 3 Address 23"; 7.4.19: "T1 – T4 30-33", "PWM1 – PWM4 34-37"
+    -- and so on
+    ∷ (critical4 1, 0x320) ∷ (t4 1 1, 0x330) ∷ (t4 1 2, 0x331) ∷ (t4 1 3, 0x332) ∷ (t4 1 4, 0x333)
+    ∷ (p4 1 1, 0x334) ∷ (p4 1 2, 0x335) ∷ (p4 1 3, 0x336) ∷ (p4 1 4, 0x337)
+    ∷ (critical4 2, 0x321) ∷ (t4 2 1, 0x338) ∷ (t4 2 2, 0x339) ∷ (t4 2 3, 0x33A) ∷ (t4 2 4, 0x33B)
+    ∷ (p4 2 1, 0x33C) ∷ (p4 2 2, 0x33D) ∷ (p4 2 3, 0x33E) ∷ (p4 2 4, 0x33F)
+    ∷ (critical4 3, 0x322) ∷ (t4 3 1, 0x340) ∷ (t4 3 2, 0x341) ∷ (t4 3 3, 0x342) ∷ (t4 3 4, 0x343)
+    ∷ (p4 3 1, 0x344) ∷ (p4 3 2, 0x345) ∷ (p4 3 3, 0x346) ∷ (p4 3 4, 0x347)
+    ∷ (critical4 4, 0x323) ∷ (t4 4 1, 0x348) ∷ (t4 4 2, 0x349) ∷ (t4 4 3, 0x34A) ∷ (t4 4 4, 0x34B)
+    ∷ (p4 4 1, 0x34C) ∷ (p4 4 2, 0x34D) ∷ (p4 4 3, 0x34E) ∷ (p4 4 4, 0x34F)
+    -- 7.5.3: "T5CTFS - Bank 4 Address 10" to "T10CTFS - Bank 4 Address 15"; 7.5.5: "T1 – T4 30-33" to "DC/PWM1 – DC/PWM4 5C-5F"
+    ∷ (critical4 5, 0x410) ∷ (t4 5 1, 0x430) ∷ (t4 5 2, 0x431) ∷ (t4 5 3, 0x432) ∷ (t4 5 4, 0x433)
+    ∷ (p4 5 1, 0x434) ∷ (p4 5 2, 0x435) ∷ (p4 5 3, 0x436) ∷ (p4 5 4, 0x437)
+    ∷ (critical4 6, 0x411) ∷ (t4 6 1, 0x438) ∷ (t4 6 2, 0x439) ∷ (t4 6 3, 0x43A) ∷ (t4 6 4, 0x43B)
+    ∷ (p4 6 1, 0x43C) ∷ (p4 6 2, 0x43D) ∷ (p4 6 3, 0x43E) ∷ (p4 6 4, 0x43F)
+    ∷ (critical4 7, 0x412) ∷ (t4 7 1, 0x440) ∷ (t4 7 2, 0x441) ∷ (t4 7 3, 0x442) ∷ (t4 7 4, 0x443)
+    ∷ (p4 7 1, 0x444) ∷ (p4 7 2, 0x445) ∷ (p4 7 3, 0x446) ∷ (p4 7 4, 0x447)
+    ∷ (critical4 8, 0x413) ∷ (t4 8 1, 0x448) ∷ (t4 8 2, 0x449) ∷ (t4 8 3, 0x44A) ∷ (t4 8 4, 0x44B)
+    ∷ (p4 8 1, 0x44C) ∷ (p4 8 2, 0x44D) ∷ (p4 8 3, 0x44E) ∷ (p4 8 4, 0x44F)
+    ∷ (critical4 9, 0x414) ∷ (t4 9 1, 0x450) ∷ (t4 9 2, 0x451) ∷ (t4 9 3, 0x452) ∷ (t4 9 4, 0x453)
+    ∷ (p4 9 1, 0x454) ∷ (p4 9 2, 0x455) ∷ (p4 9 3, 0x456) ∷ (p4 9 4, 0x457)
+    ∷ (critical4 10, 0x415) ∷ (t4 10 1, 0x458) ∷ (t4 10 2, 0x459) ∷ (t4 10 3, 0x45A) ∷ (t4 10 4, 0x45B)
+    ∷ (p4 10 1, 0x45C) ∷ (p4 10 2, 0x45D) ∷ (p4 10 3, 0x45E) ∷ (p4 10 4, 0x45F)
+    ∷ (length (tablesOf Nct7904d), 10) ∷ (length (positions (tableOf Nct7904d 1)), 9) ∷ (length (positions (tableOf Nct7904d 10)), 9)
+    -- 7.1.10: "TEMP_CH1_HV - Bank 0 Address 42" to "LTD_LV - Bank 0 Address 63"; 7.1.16: "T_CPU1_HV - Bank 0 Address A0" to "T_CPU8_LV - Bank 0 Address AF"
+    ∷ (highOf 0, 0x42) ∷ (lowOf 0, 0x43) ∷ (highOf 1, 0x46) ∷ (lowOf 1, 0x47) ∷ (highOf 2, 0x4A) ∷ (lowOf 2, 0x4B) ∷ (highOf 3, 0x4E) ∷ (lowOf 3, 0x4F) ∷ (highOf 4, 0x62) ∷ (lowOf 4, 0x63)
+    ∷ (highOf 5, 0xA0) ∷ (lowOf 5, 0xA1) ∷ (highOf 6, 0xA2) ∷ (lowOf 6, 0xA3) ∷ (highOf 7, 0xA4) ∷ (lowOf 7, 0xA5) ∷ (highOf 8, 0xA6) ∷ (lowOf 8, 0xA7)
+    ∷ (highOf 9, 0xA8) ∷ (lowOf 9, 0xA9) ∷ (highOf 10, 0xAA) ∷ (lowOf 10, 0xAB) ∷ (highOf 11, 0xAC) ∷ (lowOf 11, 0xAD) ∷ (highOf 12, 0xAE) ∷ (lowOf 12, 0xAF)
+    ∷ (length (sheetOf Nct7904d .temperatures), 13)
+    -- 7.1.30: "Address FF", "2-0 BANK_SEL[2:0]"
+    ∷ (sheetOf Nct7904d .banks .select, 0xFF) ∷ (sheetOf Nct7904d .banks .bits, 0x07)
     -- and no others
     ∷ (length (sheetOf Nct7802y .temperatures), 1) ∷ (length (sheetOf F75373s .temperatures), 0) ∷ (length (sheetOf Nct80 .temperatures), 1)
     ∷ []

@@ -24,7 +24,7 @@ use Rattle.curves.specs.Planned.{temperaturesInOrder, speedsInOrder}
 use Rattle.curves.specs.Values.{Within, Sized, Typed}
 use Rattle.curves.proofs.Filled.{planned-sized, planned-within}
 use Rattle.bodies.specs.Bodies.{body}
-use Rattle.plans.specs.Plans.{fits, plannedFor, temperaturesPass, speedsPass}
+use Rattle.plans.specs.Plans.{holdable, plannedFor, temperaturesPass, speedsPass}
 use Rattle.plans.specs.Parts.{fitFrom, planFits}
 
 -- values in a column are asked as in their list
@@ -39,7 +39,7 @@ fit-column register values place (suc n) h =
 fit-places : (chip : Chip) (register : ℕ → Register) (values : List ℕ) (place : ℕ) (ps vs : List ℕ) → length ps ≡ length vs
     → ((k : ℕ) → k < length ps → register (place + k) .masks .writable ≡ rowOf chip (getD ps k 0) .writable)
     → ((k : ℕ) → k < length ps → getD values (place + k) 0 ≡ getD vs k 0)
-    → fitFrom register values place (length ps) ≡ fits chip ps vs
+    → fitFrom register values place (length ps) ≡ holdable chip ps vs
 fit-places chip register values place [] [] e m v = refl
 fit-places chip register values place [] (x ∷ vs) e m v = cc
 fit-places chip register values place (p ∷ ps) [] e m v = cc
@@ -55,7 +55,7 @@ fit-places chip register values place (p ∷ ps) (x ∷ vs) e m v =
 
 -- where all bits are writable every byte fits
 all-fit : (chip : Chip) (ps vs : List ℕ) → length ps ≡ length vs → ((k : ℕ) → k < length ps → rowOf chip (getD ps k 0) .writable ≡ 0xFF) → Within 8 vs
-    → fits chip ps vs ≡ true
+    → holdable chip ps vs ≡ true
 all-fit chip [] [] e m w = refl
 all-fit chip [] (x ∷ vs) e m w = cc
 all-fit chip (p ∷ ps) [] e m w = cc
@@ -100,24 +100,24 @@ module _ (chip : Chip) (plan : Plan) (typed : Typed plan) (has : So (hasTable ch
   in-speeds k = getD-append-add settings speeds k 0
 
   -- where the table takes every bit nothing need be asked, else its registers are
-  by-whole : (ps vs : List ℕ) (place : ℕ) → (layoutOf chip (plan .table) .whole ≡ true → fits chip ps vs ≡ true)
-      → fitFrom (registerIn (sheetOf chip) (plan .table)) (body (plannedFor chip plan)) place (length ps) ≡ fits chip ps vs
-      → planFits chip plan (layoutOf chip (plan .table)) place (length ps) ≡ fits chip ps vs
+  by-whole : (ps vs : List ℕ) (place : ℕ) → (layoutOf chip (plan .table) .whole ≡ true → holdable chip ps vs ≡ true)
+      → fitFrom (registerIn (sheetOf chip) (plan .table)) (body (plannedFor chip plan)) place (length ps) ≡ holdable chip ps vs
+      → planFits chip plan (layoutOf chip (plan .table)) place (length ps) ≡ holdable chip ps vs
   by-whole ps vs place all each = either (layoutOf chip (plan .table) .whole) all
     where
-      either : (whole : Bool) → (whole ≡ true → fits chip ps vs ≡ true)
-          → cond whole true (fitFrom (registerIn (sheetOf chip) (plan .table)) (body (plannedFor chip plan)) place (length ps)) ≡ fits chip ps vs
+      either : (whole : Bool) → (whole ≡ true → holdable chip ps vs ≡ true)
+          → cond whole true (fitFrom (registerIn (sheetOf chip) (plan .table)) (body (plannedFor chip plan)) place (length ps)) ≡ holdable chip ps vs
       either true f = sym (f refl)
       either false f = each
 
   -- "at mask FFh every byte fits": a plan's values do
-  pub settings-whole : layoutOf chip (plan .table) .whole ≡ true → fits chip settings wanted ≡ true
+  pub settings-whole : layoutOf chip (plan .table) .whole ≡ true → holdable chip settings wanted ≡ true
   settings-whole t =
       all-fit chip settings wanted (settings-long chip plan (typed .sized) has)
       (λ k h. ap (λ (p : ℕ). rowOf chip p .writable) (sym (in-settings k h)) ∙ whole-mask chip (plan .table) t k (omega (arith, all-long)))
       (planned-within (shapeOf chip (plan .table)) plan typed .0)
 
-  pub speeds-whole : layoutOf chip (plan .table) .whole ≡ true → fits chip speeds asked ≡ true
+  pub speeds-whole : layoutOf chip (plan .table) .whole ≡ true → holdable chip speeds asked ≡ true
   speeds-whole t =
       all-fit chip speeds asked (speeds-long chip plan (typed .sized) has)
       (λ k h.
@@ -125,7 +125,7 @@ module _ (chip : Chip) (plan : Plan) (typed : Typed plan) (has : So (hasTable ch
       ∙ whole-mask chip (plan .table) t (length settings + k) (omega (arith, all-long)))
       (planned-within (shapeOf chip (plan .table)) plan typed .1)
 
-  pub settings-fit : planFits chip plan (layoutOf chip (plan .table)) 0 (length settings) ≡ fits chip settings wanted
+  pub settings-fit : planFits chip plan (layoutOf chip (plan .table)) 0 (length settings) ≡ holdable chip settings wanted
   settings-fit =
       by-whole settings wanted 0 settings-whole
       (fit-places chip (registerIn (sheetOf chip) (plan .table)) (body (plannedFor chip plan)) 0 settings wanted (settings-long chip plan (typed .sized) has)
@@ -136,7 +136,7 @@ module _ (chip : Chip) (plan : Plan) (typed : Typed plan) (has : So (hasTable ch
       (λ k h.
       ap (λ (j : ℕ). getD (body (plannedFor chip plan)) j 0) (zero-add k) ∙ List·getD-append wanted asked 0 k (omega (arith, settings-long chip plan (typed .sized) has))))
 
-  pub speeds-fit : planFits chip plan (layoutOf chip (plan .table)) (length settings) (length speeds) ≡ fits chip speeds asked
+  pub speeds-fit : planFits chip plan (layoutOf chip (plan .table)) (length settings) (length speeds) ≡ holdable chip speeds asked
   speeds-fit =
       by-whole speeds asked (length settings) speeds-whole
       (fit-places chip (registerIn (sheetOf chip) (plan .table)) (body (plannedFor chip plan)) (length settings) speeds asked (speeds-long chip plan (typed .sized) has)

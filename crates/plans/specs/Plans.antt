@@ -20,11 +20,11 @@ held chip table image =
     }
 
 -- as many values as registers, each of which its register's writable bits can hold. Where all bits are writable every byte fits.
-abbrev pub fits : Chip → List ℕ → List ℕ → Bool
-fits chip [] [] = true
-fits chip [] (v ∷ vs) = false
-fits chip (p ∷ ps) [] = false
-fits chip (p ∷ ps) (v ∷ vs) = fitsAt chip p v && fits chip ps vs
+abbrev pub holdable : Chip → List ℕ → List ℕ → Bool
+holdable chip [] [] = true
+holdable chip [] (v ∷ vs) = false
+holdable chip (p ∷ ps) [] = false
+holdable chip (p ∷ ps) (v ∷ vs) = fitsAt chip p v && holdable chip ps vs
 
 -- the curve of a plan, by the shape of its table
 abbrev pub plannedFor : Chip → Plan → Curve
@@ -33,12 +33,12 @@ plannedFor chip plan = planned (shapeOf chip (plan .table)) plan
 -- a plan's temperatures are in order, and its table can hold them ..
 unfoldable pub temperaturesPass : Chip → Plan → Bool
 temperaturesPass chip plan =
-    temperaturesInOrder (shapeOf chip (plan .table)) plan && fits chip (tableOf chip (plan .table) .settings) (plannedFor chip plan .settings)
+    temperaturesInOrder (shapeOf chip (plan .table)) plan && holdable chip (tableOf chip (plan .table) .settings) (plannedFor chip plan .settings)
 
 -- .. and so its duties or counts
 unfoldable pub speedsPass : Chip → Plan → Bool
 speedsPass chip plan =
-    speedsInOrder (shapeOf chip (plan .table)) plan && fits chip (tableOf chip (plan .table) .speeds) (plannedFor chip plan .speeds)
+    speedsInOrder (shapeOf chip (plan .table)) plan && holdable chip (tableOf chip (plan .table) .speeds) (plannedFor chip plan .speeds)
 
 -- a plan of a chip: the chip, or why it is refused ..
 abbrev pub acceptedOf : Chip → Plan → Admitted

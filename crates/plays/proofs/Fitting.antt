@@ -18,7 +18,7 @@ use Rattle.pages.proofs.Tables.{table-reaches}
 use Rattle.curves.specs.declared.Plan.{Plan}
 use Rattle.curves.specs.Orders.{All, Each, fulls}
 use Rattle.curves.specs.Planned.{fullOf, temperaturesInOrder, speedsInOrder}
-use Rattle.plans.specs.Plans.{fits, plannedFor, temperaturesPass, speedsPass}
+use Rattle.plans.specs.Plans.{holdable, plannedFor, temperaturesPass, speedsPass}
 use Rattle.plans.proofs.Laws.{Accepted}
 use Rattle.scripts.specs.Scripts.{writes, placements}
 use Rattle.scripts.proofs.Safe.{Fits}
@@ -61,12 +61,12 @@ fulls-fit chip shape [] r = tt
 fulls-fit chip shape (p ∷ ps) r = (full-fits shape (rowOf chip p .writable) (r .0), fulls-fit chip shape ps (r .1))
 
 -- what fits, register by register
-each-fit : (chip : Chip) (ps vs : List ℕ) → So (fits chip ps vs) → Each (Fit chip) ps vs
+each-fit : (chip : Chip) (ps vs : List ℕ) → So (holdable chip ps vs) → Each (Fit chip) ps vs
 each-fit chip [] [] t = tt
 each-fit chip [] (v ∷ vs) t = absurd (false≢true t)
 each-fit chip (p ∷ ps) [] t = absurd (false≢true t)
 each-fit chip (p ∷ ps) (v ∷ vs) t =
-    let parts = both (fitsAt chip p v) (fits chip ps vs) t in
+    let parts = both (fitsAt chip p v) (holdable chip ps vs) t in
     (eqb-true (bitAnd v (rowOf chip p .writable)) v (parts .0), each-fit chip ps vs (parts .1))
 
 module _ (chip : Chip) (plan : Plan) (accepted : Accepted chip plan) where

@@ -1,6 +1,5 @@
 -- Low bits that stand elsewhere in the low byte, once over the widths from 8 to 16 and over where they stand: the steps are those of the same bits
--- left-aligned, and the bytes are the left-aligned ones with the low byte's bits moved. So the ways there and back follow from `round-trip`; and from
--- there, of what `readings::right_steps` and `readings::right_bytes` answer.
+-- left-aligned, and the bytes are the left-aligned ones with the low byte's bits moved. So the ways there and back follow from `round-trip`.
 -- Assumes nothing.
 use Prim.Native.Nat.{ℕ, suc, _+_, _-_, _*_, _/_, _%_, _^_, _<_, _≤_}
 use native.Mathlib.Omega.{arith}
@@ -12,12 +11,7 @@ use lib.Arith.{digits-div}
 use lib.Dec.{ltb}
 use lib.IntN.{ℤ, pos, negsuc, _+ℤ_, _*ℤ_}
 use lib.Pow.{pow-pos, shl-shr, shr-lt, shr-mod}
-use Rattle.refusal.specs.Checks.{first}
-use Rattle.readings.specs.declared.Bytes.{Bytes}
-use Rattle.readings.specs.declared.Bytes.the-variants.{Pair}
 use Rattle.readings.specs.Readings.{wordOf, bytesOf, asWord, fits, stepsAt, bytesAt, stepsPerDegree, degreesOf, lowCount, stepsFrom, bytesFrom}
-use Rattle.readings.specs.Contracts.{rightChecks, tellsBytes, CountsRight, GivesRight}
-use Rattle.readings.proofs.Unique.{tellsBytes-injective}
 use Rattle.readings.proofs.Integers.{below, negated}
 use Rattle.readings.proofs.Words.{low-number, high-number}
 use Rattle.readings.proofs.Scaled.{scaled-fits, shifted}
@@ -134,42 +128,3 @@ module _ (w : ℕ) (least : 8 ≤ w) (most : w ≤ 16) where
         steps-fit = λ high low h.
             ap (fits w) (steps-tied unit high low h) ∙ left .steps-fit high (lowCount w unit low * 2 ^ (16 - w)) h (moved (lowCount w unit low) (count-below unit low));
       }
-
--- "the low three bits right-aligned in the low byte": at width 11, from bit 0 on
-pub right-aligned : RoundTripFrom 11 1
-right-aligned = round-trip-from 11 (omega arith) (omega arith) 1 (omega arith)
-
-pub right-steps-tied : (high low : ℕ) → high < 2 ^ 8 → stepsFrom 11 1 high low ≡ stepsAt 11 high (low % 8 * 32)
-right-steps-tied high low h =
-    let count : lowCount 11 1 low ≡ low % 8 = omega arith in
-    steps-tied 11 (omega arith) (omega arith) 1 high low h ∙ ap (λ (n : ℕ). stepsAt 11 high (n * 32)) count
-
-pub right-bytes-tied : (steps : ℤ) → fits 11 steps ≡ true → bytesFrom 11 1 steps ≡ (bytesAt 11 steps .0, bytesAt 11 steps .1 / 32)
-right-bytes-tied steps f =
-    let low : bytesAt 11 steps .1 / 32 * 1 ≡ bytesAt 11 steps .1 / 32 = omega arith in
-    bytes-tied 11 (omega arith) (omega arith) 1 steps f ∙ ap (λ (n : ℕ). (bytesAt 11 steps .0, n)) low
-
--- 0 is told only where the check does not apply
-told-fit : (n : ℤ) → 0 ≡ first (rightChecks n) → fits 11 n ≡ true
-told-fit n h = by-test (fits 11 n) refl
-  where
-    by-test : (b : Bool) → fits 11 n ≡ b → fits 11 n ≡ true
-    by-test true e = e
-    by-test false e = absurd (omega (arith, rw e at h))
-
-written : {n : ℤ} {r : Bytes} → fits 11 n ≡ true → GivesRight n r → tellsBytes r ≡ (0, bytesFrom 11 1 n)
-written f p = rw f at (p .answer)
-
--- the bytes that `right_bytes` gives for n steps are counted as n by `right_steps`
-pub right-steps-come-back : {high low : ℕ} {m n : ℤ} → GivesRight n (Pair high low) → CountsRight high low m → m ≡ n
-right-steps-come-back {n} p q =
-    let fit : fits 11 n ≡ true = told-fit n (ap (λ (t : ℕ × (ℕ × ℕ)). t .0) (p .answer)) in
-    q .answer ∙ ap (λ (t : ℕ × (ℕ × ℕ)). stepsFrom 11 1 (t .1 .0) (t .1 .1)) (written fit p) ∙ right-aligned .steps-bytes-steps n fit
-
--- two bytes that `right_steps` counts as n are, but for the ignored bits, what `right_bytes` gives for n
-pub right-bytes-come-back-cleared : {high low : ℕ} {n : ℤ} {r : Bytes} → high < 256 → CountsRight high low n → GivesRight n r → r ≡ Pair high (low % 8)
-right-bytes-come-back-cleared {high} {low} {n} {r} h p q =
-    let fit : fits 11 n ≡ true = ap (fits 11) (p .answer) ∙ right-aligned .steps-fit high low h in
-    let cleared : lowCount 11 1 low * 1 ≡ low % 8 = omega arith in
-    tellsBytes-injective r (Pair high (low % 8))
-    (written fit q ∙ ap (λ (t : ℕ × ℕ). (0, t)) (ap (bytesFrom 11 1) (p .answer) ∙ right-aligned .bytes-steps-bytes high low h ∙ ap (λ (k : ℕ). (high, k)) cleared))

@@ -5,7 +5,6 @@ pub mod Floor
 pub mod Scaled
 pub mod Unique
 pub mod RoundTrip
-pub mod Inputs
 pub mod Degrees
 pub mod Aligned
 pub mod Replaced

@@ -8,7 +8,7 @@ use Rattle.readings.specs.declared.Steps.{Steps}
 use Rattle.readings.specs.declared.Steps.the-variants as steps
 use Rattle.readings.specs.declared.Bytes.{Bytes}
 use Rattle.readings.specs.declared.Bytes.the-variants as bytes
-use Rattle.readings.specs.Contracts.{tellsSteps, tellsBytes, Encodes, CountsSteps, GivesBytes, Measures, CountsRight, GivesRight, MeasuresInput}
+use Rattle.readings.specs.Contracts.{tellsSteps, tellsBytes, Encodes, CountsSteps, GivesBytes, Measures}
 
 pub tellsSteps-injective : (a b : Steps) → tellsSteps a ≡ tellsSteps b → a ≡ b
 tellsSteps-injective (steps.Counted m) (steps.Counted n) e = ap (λ (t : ℕ × ℤ). steps.Counted (t .1)) e
@@ -35,12 +35,3 @@ writes-unique {r} {s} p q = tellsBytes-injective r s (p .answer ∙ sym (q .answ
 
 pub measures-unique : {word m n : ℕ} → Measures word m → Measures word n → m ≡ n
 measures-unique p q = p .answer ∙ sym (q .answer)
-
-pub counts-right-unique : {high low : ℕ} {m n : ℤ} → CountsRight high low m → CountsRight high low n → m ≡ n
-counts-right-unique p q = p .answer ∙ sym (q .answer)
-
-pub writes-right-unique : {n : ℤ} {r s : Bytes} → GivesRight n r → GivesRight n s → r ≡ s
-writes-right-unique {r} {s} p q = tellsBytes-injective r s (p .answer ∙ sym (q .answer))
-
-pub measures-input-unique : {input high low m n : ℕ} → MeasuresInput input high low m → MeasuresInput input high low n → m ≡ n
-measures-input-unique p q = p .answer ∙ sym (q .answer)

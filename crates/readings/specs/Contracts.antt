@@ -11,8 +11,7 @@ use Rattle.readings.specs.declared.Steps.{Steps}
 use Rattle.readings.specs.declared.Steps.the-variants as steps
 use Rattle.readings.specs.declared.Bytes.{Bytes}
 use Rattle.readings.specs.declared.Bytes.the-variants as bytes
-use Rattle.readings.specs.Readings.{isWidth, asWord, fits, stepsAt, bytesAt, stepsFrom, bytesFrom, voltage}
-use Rattle.readings.specs.Inputs.{inputVoltage}
+use Rattle.readings.specs.Readings.{isWidth, asWord, fits, stepsAt, bytesAt, voltage}
 
 -- "temperatures 11, and towards bytes then 12"
 abbrev pub stepsChecks : ℕ → List Check
@@ -20,10 +19,6 @@ stepsChecks width = (not (isWidth width), 11) ∷ []
 
 abbrev pub bytesChecks : ℕ → ℤ → List Check
 bytesChecks width steps = (not (isWidth width), 11) ∷ (not (fits width steps), 12) ∷ []
-
--- "12 towards bytes"
-abbrev pub rightChecks : ℤ → List Check
-rightChecks steps = (not (fits 11 steps), 12) ∷ []
 
 -- the paper's number, 0 where the call is accepted, and the values of each case of an answer
 abbrev pub tellsSteps : Steps → ℕ × ℤ
@@ -49,15 +44,3 @@ pub record GivesBytes (width : ℕ) (steps : ℤ) (r : Bytes) : Type 0 where
 -- what `readings::microvolts` promises
 pub record Measures (word microvolts : ℕ) : Type 0 where
   pub answer : microvolts ≡ voltage word
-
--- what `readings::right_steps` promises: width 11, with the low bits right-aligned
-pub record CountsRight (high low : ℕ) (steps : ℤ) : Type 0 where
-  pub answer : steps ≡ stepsFrom 11 1 high low
-
--- what `readings::right_bytes` promises
-pub record GivesRight (steps : ℤ) (r : Bytes) : Type 0 where
-  pub answer : tellsBytes r ≡ toldOr (0, 0) (rightChecks steps) (bytesFrom 11 1 steps)
-
--- what `readings::input_microvolts` promises
-pub record MeasuresInput (input high low microvolts : ℕ) : Type 0 where
-  pub answer : microvolts ≡ inputVoltage input high low

@@ -1,4 +1,3 @@
 pub mod Readings
-pub mod Inputs
 pub mod Sensors
 pub mod Contracts

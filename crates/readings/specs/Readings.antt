@@ -60,8 +60,8 @@ abbrev pub fits : ℕ → ℤ → Bool
 fits w steps = leZ (negℤ (pos (2 ^ (w - 1)))) steps && ltZ steps (pos (2 ^ (w - 1)))
 
 -- Where the low bits stand elsewhere: the w - 8 bits that count lie in the low byte from the bit worth `unit` on, 2 ^ (16 - w) where they are
--- left-aligned as above, 1 where they are right-aligned. At width 11 and unit 1 these are the words of the request for the NCT7904D: "temperature steps
--- are 8 times the signed high byte plus the low byte's bits 2 to 0, the other low bits ignored and written as zero; both ways".
+-- left-aligned as above, 1 where they are right-aligned. So for L1's "low three bits right-aligned in the low byte", at width 11 and unit 1, the steps are
+-- 8 times the signed high byte plus bits 2 to 0 of the low byte.
 abbrev pub lowCount : ℕ → ℕ → ℕ → ℕ
 lowCount w unit low = low / unit % stepsPerDegree w
 

@@ -1,11 +1,9 @@
-// Temperatures of a width as counts of steps, those of the NCT7904D with them, and the voltages of the NCT80 and the NCT7904D.
+// Temperatures of a width as counts of steps, and the voltages of the NCT80.
 use refusal::Refusal;
 ghost use mathlib.Core.Path.{_≡_};
 ghost use mathlib.Core.Bool.{true};
 ghost use Rattle.readings.specs.Readings.{isWidth, asNumber, fits};
-ghost use Prim.Native.Nat.{_≤_};
-ghost use Rattle.readings.specs.Inputs.{inputs, worthIn};
-ghost use Rattle.readings.specs.Contracts.{Encodes, CountsSteps, GivesBytes, Measures, CountsRight, GivesRight, MeasuresInput};
+ghost use Rattle.readings.specs.Contracts.{Encodes, CountsSteps, GivesBytes, Measures};
 
 // A temperature as a signed count of steps, or why there is none.
 pub enum Steps {
@@ -87,55 +85,4 @@ pub fn microvolts(word: u16) -> u32
     ensures { λ r. ⌜ Measures word r ⌝ }
 {
     (word >> 6) as u32 * 2500
-}
-
-// The temperature of two bytes whose low three bits stand right-aligned in the low byte, in steps of 1/8 degree.
-pub fn right_steps(high: u8, low: u8) -> i16
-    ensures { λ r. ⌜ CountsRight high low r ⌝ }
-{
-    let number = as_number(high as u16 * 256 + (low % 8) as u16 * 32);
-    number >> 5
-}
-
-// The two bytes of such a temperature.
-pub fn right_bytes(steps: i16) -> Bytes
-    ensures { λ r. ⌜ GivesRight steps r ⌝ }
-{
-    if does_fit(11, steps) {
-        let word = as_word(steps);
-        return Bytes::Pair((word / 8 % 256) as u8, (word % 8) as u8);
-    }
-    Bytes::Refused(Refusal::StepsDoNotFit)
-}
-
-// What a count of an NCT7904D voltage is worth in microvolts, by the address of its high byte; 0 where no voltage's high byte stands.
-fn worth_of(input: u8) -> u32
-    ensures { λ r. ⌜ r ≡ worthIn inputs input ⌝ }
-    ensures { λ r. ⌜ r ≤ 6000 ⌝ }
-{
-    match input {
-        0x40
-        | 0x42
-        | 0x44
-        | 0x46
-        | 0x48
-        | 0x4A
-        | 0x4C
-        | 0x4E
-        | 0x50
-        | 0x52
-        | 0x54
-        | 0x56
-        | 0x58
-        | 0x5A => 2000,
-        0x5C | 0x5E | 0x60 | 0x64 | 0x66 | 0x68 => 6000,
-        _ => 0,
-    }
-}
-
-// The voltage of an NCT7904D input, in microvolts.
-pub fn input_microvolts(input: u8, high: u8, low: u8) -> u32
-    ensures { λ r. ⌜ MeasuresInput input high low r ⌝ }
-{
-    (8 * high as u32 + (low % 8) as u32) * worth_of(input)
 }

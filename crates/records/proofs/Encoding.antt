@@ -9,7 +9,7 @@ use lib.ListN.{length, getD, take, length-append}
 use lib.Seq.{take-append-add}
 use Rattle.refusal.specs.Checks.{first}
 use Rattle.pages.specs.declared.Chip.{Chip}
-use Rattle.pages.specs.declared.Chip.the-variants.{Nct7802y, F75373s}
+use Rattle.pages.specs.declared.Chip.the-variants.{Nct7802y, F75373s, Nct7904d}
 use Rattle.pages.specs.declared.Named.{Named}
 use Rattle.pages.specs.declared.Named.the-variants.{Known, Unknown}
 use Rattle.pages.specs.declared.Shape.{Shape}
@@ -24,19 +24,19 @@ use Rattle.curves.specs.Planned.{planned, temperaturesInOrder, speedsInOrder}
 use Rattle.curves.specs.Values.{Sized}
 use Rattle.bodies.specs.Bodies.{ownOf}
 use Rattle.bodies.proofs.Laws.{body-length, column-begins, own-chip, own-table, own-curve, own-temperatures, own-speeds}
-use Rattle.plans.specs.Plans.{fits, temperaturesPass, speedsPass}
+use Rattle.plans.specs.Plans.{holdable, temperaturesPass, speedsPass}
 use Rattle.plans.specs.Contracts.{planChecks}
 use Rattle.records.specs.Records.{header, bodyLength, recordLength, recordBody, recordOf, encoded}
 
--- "9 bytes for chip 1, 14 for chip 2"
-pub body-lengths : (bodyLength Nct7802y ≡ 9) × (bodyLength F75373s ≡ 14)
+-- "9 bytes for chip 1, 14 for chip 2", and 9 for chip 4
+pub body-lengths : (bodyLength Nct7802y ≡ 9) × (bodyLength F75373s ≡ 14) × (bodyLength Nct7904d ≡ 9)
 unfolding sheetOf
-body-lengths = (refl, refl)
+body-lengths = (refl, refl, refl)
 
 -- "the bytes used, 13 or 18"
-pub record-lengths : (recordLength Nct7802y ≡ 13) × (recordLength F75373s ≡ 18)
+pub record-lengths : (recordLength Nct7802y ≡ 13) × (recordLength F75373s ≡ 18) × (recordLength Nct7904d ≡ 13)
 unfolding sheetOf
-record-lengths = (refl, refl)
+record-lengths = (refl, refl, refl)
 
 -- as many as each of the chip's tables has registers ..
 pub body-of-table : (chip : Chip) (table : ℕ) → hasTable chip table ≡ true
@@ -102,17 +102,17 @@ module _ (chip : Chip) (plan : Plan) where
   temperatures-judged : temperaturesPass chip back ≡ temperaturesPass chip plan
   unfolding temperaturesPass
   temperatures-judged =
-      ap (λ (t : ℕ). temperaturesInOrder (shapeOf chip t) back && fits chip (tableOf chip t .settings) (planned (shapeOf chip t) back .settings))
+      ap (λ (t : ℕ). temperaturesInOrder (shapeOf chip t) back && holdable chip (tableOf chip t .settings) (planned (shapeOf chip t) back .settings))
       (own-table shape plan)
-      ∙ ap₂ (λ (order : Bool) (values : List ℕ). order && fits chip (tableOf chip (plan .table) .settings) values)
+      ∙ ap₂ (λ (order : Bool) (values : List ℕ). order && holdable chip (tableOf chip (plan .table) .settings) values)
       (own-temperatures shape plan) (λ i. own-curve shape plan i .settings)
 
   speeds-judged : speedsPass chip back ≡ speedsPass chip plan
   unfolding speedsPass
   speeds-judged =
-      ap (λ (t : ℕ). speedsInOrder (shapeOf chip t) back && fits chip (tableOf chip t .speeds) (planned (shapeOf chip t) back .speeds))
+      ap (λ (t : ℕ). speedsInOrder (shapeOf chip t) back && holdable chip (tableOf chip t .speeds) (planned (shapeOf chip t) back .speeds))
       (own-table shape plan)
-      ∙ ap₂ (λ (order : Bool) (values : List ℕ). order && fits chip (tableOf chip (plan .table) .speeds) values)
+      ∙ ap₂ (λ (order : Bool) (values : List ℕ). order && holdable chip (tableOf chip (plan .table) .speeds) values)
       (own-speeds shape plan) (λ i. own-curve shape plan i .speeds)
 
   pub own-judged : chipOf (plan .chip) ≡ Known chip → first (planChecks back) ≡ first (planChecks plan)

@@ -25,7 +25,7 @@ use Rattle.scripts.specs.declared.making.Load.{Load}
 use Rattle.scripts.specs.Scripts.{Pair, placements, routed, addressed, bus, flat, scriptOf, scriptFor}
 use Rattle.scripts.specs.Played.{laid}
 use Rattle.scripts.specs.Contracts.{scriptChecks, Scripts, Makes}
-use Rattle.scripts.specs.Making.{writesOf, pairsOf, madeOf, loadOf, bytesOf, PutsPairs}
+use Rattle.scripts.specs.Making.{writesOf, pairsOf, madeOf, loadOf, loadedBytes, PutsPairs}
 use Rattle.scripts.proofs.Walk.{pairs-length}
 use Rattle.scripts.proofs.Prepared.{load-writes, load-makes}
 
@@ -79,7 +79,7 @@ take-least count ws = by-size (leb count (length ws)) refl
 
 -- as many writes as are asked for, or all
 pub made-script : (chip : Chip) (plan : Plan) (count : ℕ) {n w : ℕ} {old new : List ℕ} → Sized plan → w ≡ writesOf (loadOf chip plan) → n ≡ min count w
-    → new ≡ madeOf (loadOf chip plan) (bytesOf chip plan) n old → Makes chip plan count old n new
+    → new ≡ madeOf (loadOf chip plan) (loadedBytes chip plan) n old → Makes chip plan count old n new
 unfolding bus
 made-script chip plan count {n} {w} {old} sized e q m =
     let ws = routed chip (placements chip plan) in

@@ -11,7 +11,7 @@ use Rattle.refusal.specs.Checks.{first}
 use Rattle.refusal.specs.declared.Amount.the-variants as amount
 use Rattle.refusal.proofs.Passed.{all-passed, when-passed}
 use Rattle.pages.specs.declared.Chip.{Chip}
-use Rattle.pages.specs.declared.Chip.the-variants.{Nct7802y, F75373s}
+use Rattle.pages.specs.declared.Chip.the-variants.{Nct7802y, F75373s, Nct7904d}
 use Rattle.pages.specs.declared.Named.the-variants.{Known}
 use Rattle.pages.specs.Banks.{noBank}
 use Rattle.pages.specs.Cards.{sheetOf, chipOf, banksOf, hasTable, tableOf, shapeOf, layoutOf}
@@ -27,10 +27,10 @@ use Rattle.scripts.specs.Contracts.{scriptChecks, Scripts}
 use Rattle.scripts.proofs.Bus.{bus-length}
 use Rattle.scripts.proofs.Prepared.{load-writes}
 
--- "13 writes", "24 writes"
-pub script-lengths : (scriptLength Nct7802y ≡ 13) × (scriptLength F75373s ≡ 24)
+-- "13 writes", "24 writes", and of chip 4 one more than of chip 1: its script "goes as chip 1's, but selects a bank before the first write"
+pub script-lengths : (scriptLength Nct7802y ≡ 13) × (scriptLength F75373s ≡ 24) × (scriptLength Nct7904d ≡ 14)
 unfolding sheetOf
-script-lengths = (refl, refl)
+script-lengths = (refl, refl, refl)
 
 -- as many as a plan's script has, by its table ..
 pub script-of-table : (chip : Chip) (plan : Plan) → Sized plan → length (scriptOf chip plan) ≡ writesIn (layoutOf chip (plan .table))

@@ -34,12 +34,12 @@ use Rattle.scripts.specs.declared.making.Load.{Load}
 use Rattle.scripts.specs.declared.making.Write.{Write}
 use Rattle.scripts.specs.Scripts.{Pair, writes, script, placements, routedFrom, routed, addressed, bus, scriptOf}
 use Rattle.scripts.specs.Played.{laid}
-use Rattle.scripts.specs.Making.{registersOf, writesOf, placeAt, byteAt, registerOf, bankOf, readyAt, cursorAt, writeAt, pairsOf, madeOf, Short, loadOf, bytesOf}
+use Rattle.scripts.specs.Making.{registersOf, writesOf, placeAt, byteAt, registerOf, bankOf, readyAt, cursorAt, writeAt, pairsOf, madeOf, Short, loadOf, loadedBytes}
 use Rattle.scripts.proofs.Bus.{Standing, standing-append, laid-append}
 use Rattle.scripts.proofs.Pairs.{nothing, script-length, script-registers, raised-at, body-at}
 use Rattle.scripts.proofs.Walk.{Describes, walk-length, walk-turns, walk-pairs}
 
-pub body-long : (chip : Chip) (plan : Plan) {bytes : List ℕ} → bytes ≡ bytesOf chip plan → length bytes ≡ 14
+pub body-long : (chip : Chip) (plan : Plan) {bytes : List ℕ} → bytes ≡ loadedBytes chip plan → length bytes ≡ 14
 body-long chip plan e = ap length e ∙ column-length 14 (λ k. getD (body (plannedFor chip plan)) k 0)
 
 -- writes that stand in a table's registers stand where the bus reaches them
@@ -55,7 +55,7 @@ module _ (chip : Chip) (plan : Plan) where
   load = loadOf chip plan
 
   abbrev bytes : List ℕ
-  bytes = bytesOf chip plan
+  bytes = loadedBytes chip plan
 
   abbrev table : Table
   table = tableOf chip (plan .table)

@@ -101,8 +101,8 @@ loadOf chip plan =
     }
 
 -- .. and the bytes that go there, with zeros behind them
-abbrev pub bytesOf : Chip → Plan → List ℕ
-bytesOf chip plan = column 14 (λ k. getD (body (plannedFor chip plan)) k 0)
+abbrev pub loadedBytes : Chip → Plan → List ℕ
+loadedBytes chip plan = column 14 (λ k. getD (body (plannedFor chip plan)) k 0)
 
 -- all pairs at the front of a buffer, or none
 pub record PutsPairs (l : Load) (bytes old : List ℕ) (r : Amount) (new : List ℕ) : Type 0 where

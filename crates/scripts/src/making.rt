@@ -10,7 +10,7 @@ ghost use mathlib.Core.Path.{_≡_};
 ghost use mathlib.Core.Bool.{true, cond};
 ghost use lib.Dec.{eqb};
 ghost use lib.ListN.{length};
-ghost use Rattle.scripts.specs.Making.{Short, registersOf, writesOf, placeAt, byteAt, stepped, writeFrom, loadOf, bytesOf};
+ghost use Rattle.scripts.specs.Making.{Short, registersOf, writesOf, placeAt, byteAt, stepped, writeFrom, loadOf, loadedBytes};
 
 // A fan table that is loaded: its chip and number, how many settings and speeds it has, the full byte, and the selects.
 pub struct Load {
@@ -141,7 +141,7 @@ pub(crate) fn load_of(chip: Chip, plan: Plan) -> Load
 
 // The bytes that a plan loads there.
 pub(crate) fn bytes_of(chip: Chip, plan: Plan) -> [u8; LONGEST]
-    ensures { λ r. ⌜ r ≡ bytesOf chip plan ⌝ }
+    ensures { λ r. ⌜ r ≡ loadedBytes chip plan ⌝ }
 {
     let layout = cards::layout_of(chip, plan.table);
     let shape = layout.shape;

@@ -13,14 +13,14 @@ use Rattle.bodies.proofs.body_of.Tie as tie
 enum-told : tie.Need-enum-told
 enum-told c = search needs
 
-leading-bytes-requires : tie.Need-leading-bytes-requires
-leading-bytes-requires c κs = search needs
-
-returns : tie.Need-returns
-returns c = rw (c .before .before .before .before .before .enum-told .given .1, c .before .if1 .taken) (record { answer = c .leading-bytes .ensures })
-
 slope-bytes-requires : tie.Need-slope-bytes-requires
 slope-bytes-requires c κs = search needs
+
+returns : tie.Need-returns
+returns c = rw (c .before .before .before .before .before .enum-told .given .1, c .before .if1 .taken) (record { answer = c .slope-bytes .ensures })
+
+slope-bytes-requires-2 : tie.Need-slope-bytes-requires-2
+slope-bytes-requires-2 c κs = search needs
 
 enum-told-2 : tie.Need-enum-told-2
 enum-told-2 c = search needs
@@ -29,7 +29,7 @@ step-bytes-requires : tie.Need-step-bytes-requires
 step-bytes-requires c κs = search needs
 
 returns-2 : tie.Need-returns-2
-returns-2 c = rw (c .before .before .before .before .before .enum-told .given .1, c .before .if1 .left) (record { answer = c .slope-bytes .ensures })
+returns-2 c = rw (c .before .before .before .before .before .enum-told .given .1, c .before .if1 .left) (record { answer = c .slope-bytes2 .ensures })
 
 returns-3 : tie.Need-returns-3
 returns-3 c =
@@ -41,4 +41,4 @@ returns-3 c =
 pub body-of-spec : {M : Type 1} → statement M
 body-of-spec =
     tie.close
-    (tie.spec enum-told leading-bytes-requires returns slope-bytes-requires enum-told-2 step-bytes-requires returns-2 returns-3)
+    (tie.spec enum-told slope-bytes-requires returns slope-bytes-requires-2 enum-told-2 step-bytes-requires returns-2 returns-3)

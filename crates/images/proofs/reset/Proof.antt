@@ -2,14 +2,12 @@
 -- Assumes nothing.
 use Prim.Native.Nat.{ℕ}
 use native.Mathlib.Omega.{arith}
-use mathlib.Core.Path.{sym, ap, ap₂, _∙_}
-use mathlib.Core.List.{List}
-use lib.ListN.{take}
+use mathlib.Core.Path.{sym, ap, _∙_}
 use Rattle.refusal.proofs.Passed.{when-passed, when-refused}
 use Rattle.pages.specs.declared.Named.{Named}
-use Rattle.pages.specs.Sheets.{greatest, powerOnIn}
-use Rattle.pages.specs.Cards.{sheetOf, rowOf, powerOn, whenKnown}
-use Rattle.pages.proofs.Columns.{column-front}
+use Rattle.pages.specs.Rows.{column}
+use Rattle.pages.specs.Sheets.{powerOnIn}
+use Rattle.pages.specs.Cards.{rowOf, powerOn, whenKnown}
 use Rattle.pages.proofs.Sound.{sound-sheet}
 use Rattle.images.proofs.Admission.{admit-known, admit-passed, admit-refused}
 use borrow.Author.Needs.{needs}
@@ -26,7 +24,11 @@ enum-known-known : tie.Need-enum-known-known
 enum-known-known c = search needs
 
 power-on-image-requires : tie.Need-power-on-image-requires
-power-on-image-requires c κs = search needs
+power-on-image-requires c κs =
+    let k = c .before in
+    let chip = k .known .given .0 .0 in
+    let K = admit-known chip (k .before .before .admit .ensures) (k .known .given .1) in
+    omega (arith, K .long, sound-sheet chip .size)
 
 copy-requires : tie.Need-copy-requires
 copy-requires c κs =
@@ -55,8 +57,8 @@ returns-2 c =
     record {
       answer = sym none;
       bytes = c .before .before .copy .ensures
-          ∙ ap₂ (λ (n : ℕ) (l : List ℕ). take n l) (K .long) (c .before .before .before .before .power-on-image .ensures)
-          ∙ column-front greatest (sheetOf chip .size) (λ p. rowOf chip p .power) (sound-sheet chip .size)
+          ∙ c .before .before .before .before .power-on-image .ensures
+          ∙ ap (λ (n : ℕ). column n (λ p. rowOf chip p .power)) (K .long)
           ∙ sym (ap (λ (n : Named). whenKnown n powerOn (a .image .now)) (K .named))
           ∙ when-passed _ (a .image .now) none;
     }

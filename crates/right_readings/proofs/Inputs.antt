@@ -11,7 +11,7 @@ use mir.Val.{hasKey}
 use types.Run.{OneOf, hit}
 use Rattle.pages.specs.Rows.{every}
 use Rattle.pages.proofs.Every.{both}
-use Rattle.readings.specs.Inputs.{Input, worthIn}
+use Rattle.right_readings.specs.Inputs.{Input, worthIn}
 
 -- of each of some addresses the list says one worth, so it does of one that is among them
 pub of-arm : (lines : List Input) (worth : ℕ) (some : List ℕ) → So (every (λ a. eqb (worthIn lines a) worth) some) → (address : ℕ) → OneOf some address

@@ -1,13 +1,13 @@
--- `readings::worth_of` meets its contract: the list has the addresses of one arm and then those of the other, each with the arm's worth.
+-- `right_readings::worth_of` meets its contract: the list has the addresses of one arm and then those of the other, each with the arm's worth.
 -- Assumes nothing.
 use Prim.Native.Nat.{ℕ}
 use native.Mathlib.Omega.{arith}
 use mathlib.Core.Path.{refl, sym, _∙_}
 use mathlib.Core.List.{List, [], _∷_}
-use Rattle.readings.specs.Inputs.{inputs}
-use Rattle.readings.proofs.Inputs.{of-arm, alike, elsewhere}
-use Rattle.readings.proofs.worth_of.Statement.{statement}
-use Rattle.readings.proofs.worth_of.Tie as tie
+use Rattle.right_readings.specs.Inputs.{inputs}
+use Rattle.right_readings.proofs.Inputs.{of-arm, alike, elsewhere}
+use Rattle.right_readings.proofs.worth_of.Statement.{statement}
+use Rattle.right_readings.proofs.worth_of.Tie as tie
 
 abbrev direct : List ℕ
 direct =

@@ -1,4 +1,4 @@
--- `bodies::encoding::leading_bytes` meets its contract: four values are what stands at their four places.
+-- `bodies::leading::slope_bytes` meets its contract: four values are what stands at their four places.
 -- Assumes nothing.
 use Prim.Native.Nat.{ℕ}
 use mathlib.Core.Path.{ap₂}
@@ -7,8 +7,8 @@ use lib.ListN.{getD}
 use Rattle.pages.specs.Rows.{column}
 use Rattle.curves.proofs.Registers.{spelled}
 use borrow.Author.Needs.{needs}
-use Rattle.bodies.proofs.encoding.leading_bytes.Statement.{statement}
-use Rattle.bodies.proofs.encoding.leading_bytes.Tie as tie
+use Rattle.bodies.proofs.leading.slope_bytes.Statement.{statement}
+use Rattle.bodies.proofs.leading.slope_bytes.Tie as tie
 
 returns : tie.Need-returns
 unfolding column
@@ -17,8 +17,8 @@ returns c =
     ap₂ (λ (ts ds : List ℕ). column 14 (λ k. getD (a .critical ∷ (ts ++ ds)) k 0))
     (spelled (a .t1) 4 (search needs)) (spelled (a .t3) 4 (search needs))
 
-pub leading-bytes-spec : {M : Type 1} → statement M
-leading-bytes-spec =
+pub slope-bytes-spec : {M : Type 1} → statement M
+slope-bytes-spec =
     tie.close
     (tie.spec
     (λ c. search needs)

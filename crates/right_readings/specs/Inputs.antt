@@ -1,4 +1,5 @@
--- The NCT7904D's voltages, source document 003: "(8 high + low bits) times 2,000 or 6,000 microvolts, by input, as section 6.4 says".
+-- The NCT7904D's voltages, source document 003: "VSEN Low Byte together with VSEN High Byte forms the 11-bit count value", each count of which is worth
+-- 2,000 or 6,000 microvolts by the input.
 -- Assumes nothing.
 use Prim.Native.Nat.{ℕ, _+_, _*_, _%_}
 use mathlib.Core.Bool.{cond}

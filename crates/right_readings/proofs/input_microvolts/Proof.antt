@@ -1,12 +1,12 @@
--- `readings::input_microvolts` meets its contract: 2,047 counts of at most 6,000 microvolts are within 32 bits.
+-- `right_readings::input_microvolts` meets its contract: 2,047 counts of at most 6,000 microvolts are within 32 bits.
 -- Assumes nothing.
 use borrow.Author.Needs.{needs}
 use Prim.Native.Nat.{_+_, _*_, _%_, _≤_}
 use native.Mathlib.Omega.{arith}
 use native.Mathlib.Nat.{mul-le-mul}
 use mathlib.Core.Path.{ap}
-use Rattle.readings.proofs.input_microvolts.Statement.{statement}
-use Rattle.readings.proofs.input_microvolts.Tie as tie
+use Rattle.right_readings.proofs.input_microvolts.Statement.{statement}
+use Rattle.right_readings.proofs.input_microvolts.Tie as tie
 
 mul-result : tie.Need-mul-result
 mul-result c = search needs

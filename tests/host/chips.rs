@@ -1,0 +1,123 @@
+//! What the papers say of each chip, as data: card, banks, identity and fan tables.
+
+use crate::cards::{Row, F75373S, NCT7802Y, NCT7904D, NCT80};
+
+pub struct Chip {
+    /// A row for each byte of an image.
+    pub card: &'static [Row],
+    pub banks: Option<Banks>,
+    /// Where, which bits, and what they hold. "Confirmed means all of them"; without a list it is
+    /// never confirmed.
+    pub identity: Option<&'static [(usize, u8, u8)]>,
+    /// A fan table: where its registers stand in the image, in the order of the body.
+    pub tables: &'static [&'static [usize]],
+    /// Where T1 to T4 and critical, or B1 to B4, stand in the body.
+    pub temperatures: &'static [usize],
+    /// Where FL1 to FL4 (P1 to P4), or C1 to C5, stand in the body.
+    pub speeds: &'static [usize],
+    pub curve: Curve,
+}
+
+/// "Several register banks behind a bank select register."
+pub struct Banks {
+    /// The bank select register and the bits in it that say the bank.
+    pub select: u8,
+    pub bits: u8,
+    /// The addresses that are seen in every bank.
+    pub everywhere: &'static [u8],
+}
+
+#[derive(Clone, Copy, PartialEq, Eq)]
+pub enum Curve {
+    /// "T1, T2, T3, T4, critical (signed degrees, -128 to 127), FL1 to FL4 (0 to 255)."
+    Slope,
+    /// "B1 to B4 (0 to 255 degrees), counts C1 to C5 (0 to 65,535)."
+    Counts,
+}
+
+/// The chip of a number, if there is one.
+pub fn chip_of(number: u8) -> Option<&'static Chip> {
+    CHIPS.get(usize::from(number).wrapping_sub(1))
+}
+
+/// "Chip 1 is the Nuvoton NCT7802Y, chip 2 the Fintek F75373S, chip 3 the onsemi NCT80." "The
+/// NCT7904D [...] Add it as chip 4."
+#[rustfmt::skip]
+static CHIPS: [Chip; 4] = [
+    Chip {
+        card: &NCT7802Y,
+        // "Its image is bank 0, which counts as selected whatever 00h holds."
+        banks: None,
+        // "FDh holds 50h, FEh holds C3h, the upper four bits of FFh are 2, bits 4 to 0 of 05h are
+        // zero, bits 5 to 0 of 08h are zero."
+        identity: Some(&[
+            (0xFD, 0xFF, 0x50), (0xFE, 0xFF, 0xC3), (0xFF, 0xF0, 0x20), (0x05, 0x1F, 0), (0x08, 0x3F, 0),
+        ]),
+        // "Table 1 has T1 to T4 at 80h to 83h, critical 84h, FL1 to FL4 85h to 88h; table 2 the
+        // same from 90h, table 3 from A0h."
+        tables: &[
+            &[0x80, 0x81, 0x82, 0x83, 0x84, 0x85, 0x86, 0x87, 0x88],
+            &[0x90, 0x91, 0x92, 0x93, 0x94, 0x95, 0x96, 0x97, 0x98],
+            &[0xA0, 0xA1, 0xA2, 0xA3, 0xA4, 0xA5, 0xA6, 0xA7, 0xA8],
+        ],
+        temperatures: &[0, 1, 2, 3, 4],
+        speeds: &[5, 6, 7, 8],
+        curve: Curve::Slope,
+    },
+    Chip {
+        card: &F75373S,
+        banks: None,
+        // "5Ah, 5Bh, 5Dh, 5Eh hold 02h, 04h, 19h, 34h."
+        identity: Some(&[(0x5A, 0xFF, 0x02), (0x5B, 0xFF, 0x04), (0x5D, 0xFF, 0x19), (0x5E, 0xFF, 0x34)]),
+        // "Fan 1 has B1 to B4 at A0h to A3h and C1 to C5 from A4h to ADh, high byte first; fan 2
+        // the same from B0h."
+        tables: &[
+            &[0xA0, 0xA1, 0xA2, 0xA3, 0xA4, 0xA5, 0xA6, 0xA7, 0xA8, 0xA9, 0xAA, 0xAB, 0xAC, 0xAD],
+            &[0xB0, 0xB1, 0xB2, 0xB3, 0xB4, 0xB5, 0xB6, 0xB7, 0xB8, 0xB9, 0xBA, 0xBB, 0xBC, 0xBD],
+        ],
+        temperatures: &[0, 1, 2, 3],
+        speeds: &[4, 5, 6, 7, 8, 9, 10, 11, 12, 13],
+        curve: Curve::Counts,
+    },
+    Chip {
+        card: &NCT80,
+        banks: None,
+        // "For chip 3 always: it has no identity rule here."
+        identity: None,
+        // "Chip 3: none."
+        tables: &[],
+        temperatures: &[],
+        speeds: &[],
+        curve: Curve::Counts,
+    },
+    Chip {
+        card: &NCT7904D,
+        // Section 7.1.30: "7-3 Reserved. 2-0 BANK_SEL". Sections 7.1.12 to 7.1.14: "Data at Address
+        // 7Ah [7Bh, 7Ch] is available in all Bank Settings." FFh stands in "Bank 0, 1, 2, 3" there;
+        // it is seen in bank 4 too, or no script could leave that bank.
+        banks: Some(Banks { select: 0xFF, bits: 0x07, everywhere: &[0x7A, 0x7B, 0x7C, 0xFF] }),
+        // "Identity from its vendor, chip and device registers": 7.1.3 to 7.1.5 and 7.1.12 to
+        // 7.1.14, "Default Value: 50", "C5", "5x".
+        identity: Some(&[
+            (0x0D, 0xFF, 0x50), (0x0E, 0xFF, 0xC5), (0x0F, 0xF0, 0x50),
+            (0x7A, 0xFF, 0x50), (0x7B, 0xFF, 0xC5), (0x7C, 0xF0, 0x50),
+        ]),
+        // "Its own fan tables", in register order: critical, T1 to T4, P1 to P4. Tables 1 to 4 stand
+        // in bank 3 (sections 7.4.16 and 7.4.19), 5 to 10 in bank 4 (7.5.3 and 7.5.5).
+        tables: &[
+            &[0x320, 0x330, 0x331, 0x332, 0x333, 0x334, 0x335, 0x336, 0x337],
+            &[0x321, 0x338, 0x339, 0x33A, 0x33B, 0x33C, 0x33D, 0x33E, 0x33F],
+            &[0x322, 0x340, 0x341, 0x342, 0x343, 0x344, 0x345, 0x346, 0x347],
+            &[0x323, 0x348, 0x349, 0x34A, 0x34B, 0x34C, 0x34D, 0x34E, 0x34F],
+            &[0x410, 0x430, 0x431, 0x432, 0x433, 0x434, 0x435, 0x436, 0x437],
+            &[0x411, 0x438, 0x439, 0x43A, 0x43B, 0x43C, 0x43D, 0x43E, 0x43F],
+            &[0x412, 0x440, 0x441, 0x442, 0x443, 0x444, 0x445, 0x446, 0x447],
+            &[0x413, 0x448, 0x449, 0x44A, 0x44B, 0x44C, 0x44D, 0x44E, 0x44F],
+            &[0x414, 0x450, 0x451, 0x452, 0x453, 0x454, 0x455, 0x456, 0x457],
+            &[0x415, 0x458, 0x459, 0x45A, 0x45B, 0x45C, 0x45D, 0x45E, 0x45F],
+        ],
+        temperatures: &[1, 2, 3, 4, 0],
+        speeds: &[5, 6, 7, 8],
+        curve: Curve::Slope,
+    },
+];
