@@ -13,9 +13,10 @@ use lib.IntN.{ℤ, pos, _+ℤ_, _*ℤ_}
 use lib.ListN.{length, getD, set, length-set}
 use lib.Pow.{pow-pos, pow-add, shl-shr}
 use lib.Seq.{getD-set-same, getD-set-other}
-use Rattle.pages.specs.Rows.{every, Reading}
+use Rattle.pages.specs.Rows.{every, every, Reading}
 use Rattle.pages.specs.Nct7802y as nct7802y
 use Rattle.pages.specs.Nct80 as nct80
+use Rattle.pages.specs.Nct7904d as nct7904d
 use Rattle.pages.proofs.Every.{both, of-every, distinct, apart}
 use Rattle.readings.specs.Readings.{isWidth, fits, stepsPerDegree, degreesOf, lowCount, stepsFrom, bytesFrom, bitsFrom}
 use Rattle.readings.specs.Sensors.{highAt, temperatureIn}
@@ -59,8 +60,8 @@ standing t = every (λ address. ltb address 256) (t .low ∷ t .high) && distinc
 abbrev pub sound : Reading → Bool
 sound t = shaped t && standing t
 
-pub tested : So (sound nct7802y.temperature) × So (sound nct80.temperature)
-tested = (refl, refl)
+pub tested : So (sound nct7802y.temperature) × So (sound nct80.temperature) × So (every sound nct7904d.temperatures)
+tested = (refl, refl, refl)
 
 -- what the test says
 record Sound (t : Reading) (sensor : ℕ) : Type 0 where
