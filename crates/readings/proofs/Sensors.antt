@@ -13,7 +13,7 @@ use lib.IntN.{ℤ, pos, _+ℤ_, _*ℤ_}
 use lib.ListN.{length, getD, set, length-set}
 use lib.Pow.{pow-pos, pow-add, shl-shr}
 use lib.Seq.{getD-set-same, getD-set-other}
-use Rattle.pages.specs.Rows.{every, every, Reading}
+use Rattle.pages.specs.Rows.{every, Reading}
 use Rattle.pages.specs.Nct7802y as nct7802y
 use Rattle.pages.specs.Nct80 as nct80
 use Rattle.pages.specs.Nct7904d as nct7904d
