@@ -14,7 +14,7 @@ use Rattle.pages.specs.declared.Layout.{Layout}
 use Rattle.pages.specs.Banks.{oneBank}
 use Rattle.pages.specs.Sheets.{missing, layout}
 use Rattle.pages.specs.Cards.{chipOf, whenKnown, unknown, hasTable, layoutOf, tellsNamed, tellsFan}
-use Rattle.cards.specs.Contracts.{Names, Lays}
+use Rattle.pages.specs.Contracts.{Names, Lays}
 use Rattle.pages.proofs.Numbers.{chip-number}
 
 -- 0 and the number itself where it names a chip, else 3 and 0

@@ -1,24 +1,17 @@
-// What the chips' pages say, looked up: a module for a chip.
-mod f75373s;
-mod nct7802y;
-mod nct7904d;
-mod nct80;
-mod types;
-
+// What the chips' pages say, looked up in the crate of the chip.
 use pages::Chip;
 use pages::Fan;
 use pages::Layout;
 use pages::Masks;
+use pages::NO_REGISTER;
+use pages::NOTHING;
 use pages::Named;
 use pages::Register;
 use pages::Required;
 use pages::Selector;
+use pages::Shape;
 use pages::Sizes;
-use types::MISSING;
-use types::NO_REGISTER;
-use types::NOTHING;
-use types::ONE_BANK;
-ghost use Rattle.cards.specs.Contracts.{Names, Finds, PowersOn, TellsSizes, Requires, Lays, LaysOut, Stands, Selects, Positions};
+ghost use Rattle.pages.specs.Contracts.{Names, Finds, PowersOn, TellsSizes, Requires, Lays, LaysOut, Stands, Selects, Positions};
 
 // How many bytes an image has at most.
 pub const GREATEST: usize = 1280;
@@ -65,10 +58,22 @@ pub fn sizes_of(chip: Chip) -> Sizes
     ensures { λ r. ⌜ TellsSizes chip r ⌝ }
 {
     match chip {
-        Chip::Nct7802y => nct7802y::SIZES,
-        Chip::F75373s => f75373s::SIZES,
-        Chip::Nct80 => nct80::SIZES,
-        Chip::Nct7904d => nct7904d::SIZES,
+        Chip::Nct7802y => Sizes {
+            image: 256,
+            identity: 5,
+        },
+        Chip::F75373s => Sizes {
+            image: 256,
+            identity: 4,
+        },
+        Chip::Nct80 => Sizes {
+            image: 256,
+            identity: 0,
+        },
+        Chip::Nct7904d => Sizes {
+            image: 1280,
+            identity: 6,
+        },
     }
 }
 
@@ -96,6 +101,16 @@ pub fn table_of(chip: Chip, number: u8) -> Fan
     }
 }
 
+// The table of a number that has none.
+const MISSING: Layout = Layout {
+    settings: 0,
+    speeds: 0,
+    shape: Shape::Steps,
+    whole: true,
+    selects: 0,
+    leading: false,
+};
+
 // How the fan table of a number is laid out; where there is none, without a register.
 pub fn layout_of(chip: Chip, number: u8) -> Layout
     ensures { λ r. ⌜ LaysOut chip number r ⌝ }
@@ -118,7 +133,13 @@ pub fn register_of(chip: Chip, number: u8, k: usize) -> Register
     }
 }
 
-// The register that selects a bank of the chip.
+// Where there is one bank only.
+const ONE_BANK: Selector = Selector {
+    register: NO_REGISTER,
+    bits: 0x00,
+};
+
+// The register that selects a bank of the chip: of the NCT7904D BANK_SEL, bits 2 to 0.
 pub fn selector_of(chip: Chip) -> Selector
     ensures { λ r. ⌜ Selects chip r ⌝ }
 {
@@ -126,7 +147,16 @@ pub fn selector_of(chip: Chip) -> Selector
         Chip::Nct7802y => ONE_BANK,
         Chip::F75373s => ONE_BANK,
         Chip::Nct80 => ONE_BANK,
-        Chip::Nct7904d => nct7904d::SELECTOR,
+        Chip::Nct7904d => Selector {
+            register: Register {
+                position: 0xFF,
+                masks: Masks {
+                    writable: 0x07,
+                    clears: 0x00,
+                },
+            },
+            bits: 0x07,
+        },
     }
 }
 

@@ -3,7 +3,7 @@
 use Prim.Native.Nat.{ℕ, _+_, _*_, min}
 use mathlib.Core.Path.{_≡_, refl, sym, ap, _∙_}
 use mathlib.Core.Bool.{Bool, true, false, cond, not}
-use mathlib.Core.List.{List, [], _∷_}
+use mathlib.Core.List.{List, [], _∷_, map}
 use lib.ListN.{length, getD, take}
 use lib.IntN.{ℤ, pos}
 use borrow.Author.Tests.{not-false}
@@ -16,11 +16,11 @@ use Rattle.pages.specs.declared.Named.{Named}
 use Rattle.pages.specs.declared.Named.the-variants.{Known}
 use Rattle.pages.specs.declared.Fan.{Fan}
 use Rattle.pages.specs.declared.Layout.{Layout}
-use Rattle.pages.specs.Rows.{masksIn, requiredIn, column}
+use Rattle.pages.specs.Rows.{masksIn, requiredIn, withMasks, noRegister, from, column}
 use Rattle.pages.specs.Banks.{oneBank, standsIn}
 use Rattle.pages.specs.Sheets.{sizesIn, missing, layout, registerIn, selectorIn}
 use Rattle.pages.specs.Cards.{sheetOf, banksOf, chipOf, chipNumber, unknown, hasTable, rowOf, layoutOf, tellsNamed, tellsFan}
-use Rattle.cards.specs.Contracts.{Names, Lays}
+use Rattle.pages.specs.Contracts.{Names, Lays}
 use Rattle.cards.proofs.Told.{names-told, lays-told}
 use Rattle.pages.specs.Identity.{confirmed}
 use Rattle.images.specs.declared.Admitted.{Admitted}
@@ -99,6 +99,7 @@ demand-1 =
       register-of = λ chip number k. record { answer = registerIn (sheetOf chip) number k; kept = record { answer = refl } };
       selector-of = λ chip. record { answer = selectorIn (sheetOf chip); kept = record { answer = refl } };
       position-of = λ chip bank address. record { answer = standsIn (banksOf chip) bank address; kept = record { answer = refl } };
+      in-a-row = λ first count masks k. record { answer = getD (map (withMasks masks) (from first count)) k noRegister; kept = record { answer = refl } };
       admit = λ chip size r p. told-answered 0 chip _ (admits-told p);
       write = λ chip old address byte r new p. (verdict-answered r _ (p .answer), left-kept (imageChecks chip old) _ (p .answer) (p .bytes));
       place = λ register byte old. record { answer = storedAt (register .masks) (register .position) byte old; kept = record { bytes = refl } };

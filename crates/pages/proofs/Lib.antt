@@ -11,3 +11,4 @@ pub mod Registers
 pub mod Tables
 pub mod Numbers
 pub mod Selectors
+pub mod Unique

@@ -12,3 +12,4 @@ pub mod Nct7904dBank4
 pub mod Nct7904d
 pub mod Cards
 pub mod Identity
+pub mod Contracts

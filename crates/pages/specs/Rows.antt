@@ -1,4 +1,4 @@
--- "Register cards": what a card's lines say of each of the 256 addresses.
+-- "Register cards": what a card's lines say of each position of an image.
 -- Assumes nothing.
 use Prim.Native.Nat.{ℕ, zero, suc}
 use mathlib.Core.Bool.{Bool, true, cond, _&&_}
@@ -15,7 +15,7 @@ abbrev pub every : {A : Type 0} → (A → Bool) → List A → Bool
 every test [] = true
 every test (a ∷ l) = test a && every test l
 
--- a register of the sheet: its address, its writable bits, its bits that clear on one, its power-on value
+-- a register of the sheet: its position in the image, its writable bits, its bits that clear on one, its power-on value
 abbrev pub Line : Type 0
 Line = ℕ × ℕ × ℕ × ℕ
 
@@ -36,7 +36,7 @@ pub record Reading : Type 0 where
   pub bits : ℕ
   pub unit : ℕ
 
--- what a card says of an address
+-- what a card says of a position
 pub record Row : Type 0 where
   pub writable : ℕ
   pub clears : ℕ
@@ -64,8 +64,8 @@ positions table = table .settings ++ table .speeds
 
 -- "Addresses that a sheet doesn't list or reserves have both masks 00h and power-on 00h"
 abbrev pub rowIn : List Line → ℕ → Row
-rowIn [] address = row 0x00 0x00 0x00
-rowIn (l ∷ ls) address = cond (eqb (l .0) address) (row (l .1) (l .2) (l .3)) (rowIn ls address)
+rowIn [] position = row 0x00 0x00 0x00
+rowIn (l ∷ ls) position = cond (eqb (l .0) position) (row (l .1) (l .2) (l .3)) (rowIn ls position)
 
 -- a register of a fan table: where it stands, and what a write does there
 abbrev pub withMasks : Masks → ℕ → Register
@@ -78,14 +78,14 @@ registerAt card position = withMasks (masksIn (rowIn card position)) position
 abbrev pub noRegister : Register
 noRegister = withMasks (masksIn (row 0x00 0x00 0x00)) 0
 
--- a number for each of n addresses, from the first one on
+-- a number for each of n positions, from the first one on
 abbrev pub eachFrom : (ℕ → ℕ) → ℕ → ℕ → List ℕ
 eachFrom f first zero = []
 eachFrom f first (suc n) = f first ∷ eachFrom f (suc first) n
 
--- n addresses in a row
+-- n positions in a row
 abbrev pub from : ℕ → ℕ → List ℕ
-from first n = eachFrom (λ address. address) first n
+from first n = eachFrom (λ position. position) first n
 
 -- a number for each of n positions, as "each of the 256 addresses"
 unfoldable pub column : ℕ → (ℕ → ℕ) → List ℕ

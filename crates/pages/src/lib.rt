@@ -1,4 +1,6 @@
-// What the chips' pages and their callers speak of. The pages themselves are in specs/: facts, which the crate `cards` looks up.
+// What the chips' pages and their callers speak of. The pages themselves are in specs/: facts, which the chips' crates look up.
+ghost use Rattle.pages.specs.Contracts.{StandsInARow};
+
 pub enum Chip {
     Nct7802y,
     F75373s,
@@ -64,4 +66,36 @@ pub struct Layout {
 pub enum Fan {
     Laid(Layout),
     Nothing,
+}
+
+// Behind the end of a card.
+pub const NO_MASKS: Masks = Masks {
+    writable: 0x00,
+    clears: 0x00,
+};
+
+// Behind the last register of a table.
+pub const NO_REGISTER: Register = Register {
+    position: 0,
+    masks: NO_MASKS,
+};
+
+// No bit of any register.
+pub const NOTHING: Required = Required {
+    position: 0,
+    bits: 0x00,
+    value: 0x00,
+};
+
+// The k-th of some registers that stand in a row and have the same masks, and none behind the last.
+pub fn in_a_row(first: u8, count: u8, masks: Masks, k: usize) -> Register
+    ensures { λ r. ⌜ StandsInARow first count masks k r ⌝ }
+{
+    if count as usize <= k {
+        return NO_REGISTER;
+    }
+    Register {
+        position: first as usize + k,
+        masks,
+    }
 }

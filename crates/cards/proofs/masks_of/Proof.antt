@@ -1,4 +1,4 @@
--- `cards::masks_of` meets its contract: each arm answers by the module of its chip.
+-- `cards::masks_of` meets its contract: each arm answers by the crate of its chip.
 -- Assumes nothing.
 use borrow.Author.Needs.{needs}
 use Rattle.cards.proofs.masks_of.Statement.{statement}
@@ -16,7 +16,7 @@ masks-of-spec =
     (λ c κs. search needs)
     (λ c. search needs)
     (λ c κs. search needs)
-    (λ c. rw (c .before .enum-told .given .1) (record { answer = c .masks .ensures }))
-    (λ c. rw (c .before .enum-told2 .given .1) (record { answer = c .masks2 .ensures }))
-    (λ c. rw (c .before .enum-told3 .given .1) (record { answer = c .masks3 .ensures }))
-    (λ c. rw (c .before .enum-told4 .given .1) (record { answer = c .masks4 .ensures })))
+    (λ c. rw (c .before .enum-told .given .1) (c .masks .ensures))
+    (λ c. rw (c .before .enum-told2 .given .1) (c .masks2 .ensures))
+    (λ c. rw (c .before .enum-told3 .given .1) (c .masks3 .ensures))
+    (λ c. rw (c .before .enum-told4 .given .1) (c .masks4 .ensures)))

@@ -18,4 +18,4 @@ position-of-spec =
     (λ c. record { answer = simp (c .enum-told .given .1) })
     (λ c. record { answer = simp (c .enum-told2 .given .1) })
     (λ c. record { answer = simp (c .enum-told3 .given .1) })
-    (λ c. rw (c .before .enum-told4 .given .1) (record { answer = c .position .ensures })))
+    (λ c. rw (c .before .enum-told4 .given .1) (c .position .ensures)))

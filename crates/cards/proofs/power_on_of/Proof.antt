@@ -1,4 +1,4 @@
--- `cards::power_on_of` meets its contract: each arm answers by the module of its chip.
+-- `cards::power_on_of` meets its contract: each arm answers by the crate of its chip.
 -- Assumes nothing.
 use borrow.Author.Needs.{needs}
 use Rattle.cards.proofs.power_on_of.Statement.{statement}
@@ -16,7 +16,7 @@ power-on-of-spec =
     (λ c κs. search needs)
     (λ c. search needs)
     (λ c κs. search needs)
-    (λ c. rw (c .before .enum-told .given .1) (record { answer = c .power .ensures }))
-    (λ c. rw (c .before .enum-told2 .given .1) (record { answer = c .power2 .ensures }))
-    (λ c. rw (c .before .enum-told3 .given .1) (record { answer = c .power3 .ensures }))
-    (λ c. rw (c .before .enum-told4 .given .1) (record { answer = c .power4 .ensures })))
+    (λ c. rw (c .before .enum-told .given .1) (c .power .ensures))
+    (λ c. rw (c .before .enum-told2 .given .1) (c .power2 .ensures))
+    (λ c. rw (c .before .enum-told3 .given .1) (c .power3 .ensures))
+    (λ c. rw (c .before .enum-told4 .given .1) (c .power4 .ensures)))

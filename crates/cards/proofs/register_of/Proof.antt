@@ -1,4 +1,4 @@
--- `cards::register_of` meets its contract: each arm answers by the module of its chip.
+-- `cards::register_of` meets its contract: each arm answers by the crate of its chip.
 -- Assumes nothing.
 use native.Mathlib.Omega.{arith}
 use Prim.Native.Nat.{ℕ}
@@ -27,7 +27,7 @@ register-of-spec =
     (λ c. search needs)
     (λ c. search needs)
     (λ c κs. search needs)
-    (λ c. rw (c .before .enum-told .given .1) (record { answer = c .register .ensures }))
-    (λ c. rw (c .before .enum-told2 .given .1) (record { answer = c .register2 .ensures }))
+    (λ c. rw (c .before .enum-told .given .1) (c .register .ensures))
+    (λ c. rw (c .before .enum-told2 .given .1) (c .register2 .ensures))
     (λ c. rw (c .enum-told3 .given .1) (record { answer = sym (nothing (c .before .before .args .number) (c .before .before .args .k)) }))
-    (λ c. rw (c .before .enum-told4 .given .1) (record { answer = c .register3 .ensures })))
+    (λ c. rw (c .before .enum-told4 .given .1) (c .register3 .ensures)))

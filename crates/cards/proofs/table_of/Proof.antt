@@ -1,4 +1,4 @@
--- `cards::table_of` meets its contract: each arm answers by the module of its chip.
+-- `cards::table_of` meets its contract: each arm answers by the crate of its chip.
 -- Assumes nothing.
 use native.Mathlib.Omega.{arith}
 use Prim.Native.Nat.{ℕ}
@@ -27,7 +27,7 @@ table-of-spec =
     (λ c. search needs)
     (λ c. search needs)
     (λ c κs. search needs)
-    (λ c. rw (c .before .enum-told .given .1) (record { answer = c .table .ensures }))
-    (λ c. rw (c .before .enum-told2 .given .1) (record { answer = c .table2 .ensures }))
+    (λ c. rw (c .before .enum-told .given .1) (c .table .ensures))
+    (λ c. rw (c .before .enum-told2 .given .1) (c .table2 .ensures))
     (λ c. rw (c .enum-told3 .given .1) (record { answer = nothing (c .before .before .args .number) }))
-    (λ c. rw (c .before .enum-told4 .given .1) (record { answer = c .table3 .ensures })))
+    (λ c. rw (c .before .enum-told4 .given .1) (c .table3 .ensures)))

@@ -1,0 +1,123 @@
+// The F75373S: its register card, two of its columns in a file each, its identity and its fan tables.
+mod power_on;
+mod writable;
+
+use pages::Fan;
+use pages::Layout;
+use pages::Masks;
+use pages::NO_MASKS;
+use pages::NO_REGISTER;
+use pages::NOTHING;
+use pages::Register;
+use pages::Required;
+use pages::Shape;
+use pages::in_a_row;
+use power_on::POWER_ON;
+use writable::WRITABLE;
+ghost use mathlib.Core.Path.{_≡_};
+ghost use Rattle.pages.specs.declared.Chip.the-variants.{F75373s};
+ghost use Rattle.pages.specs.F75373s.{card};
+ghost use Rattle.pages.specs.Rows.{rowIn};
+ghost use Rattle.pages.specs.Contracts.{Finds, PowersOn, Requires, Stands, Lays};
+
+const SIZE: usize = 256;
+
+const REQUIRED: usize = 4;
+
+// The interrupt status registers alone have bits that clear on one.
+fn clears(position: usize) -> u8
+    ensures { λ r. ⌜ r ≡ rowIn card position .clears ⌝ }
+{
+    match position {
+        0x31 => 0xFF,
+        0x34 => 0x03,
+        _ => 0x00,
+    }
+}
+
+pub fn masks(position: usize) -> Masks
+    ensures { λ r. ⌜ Finds F75373s position r ⌝ }
+{
+    if SIZE <= position {
+        return NO_MASKS;
+    }
+    Masks {
+        writable: WRITABLE[position],
+        clears: clears(position),
+    }
+}
+
+pub fn power(position: usize) -> u8
+    ensures { λ r. ⌜ PowersOn F75373s position r ⌝ }
+{
+    if SIZE <= position {
+        return 0x00;
+    }
+    POWER_ON[position]
+}
+
+// The registers that identity looks at, all of them required.
+const IDENTITY: [Required; REQUIRED] = [
+    Required {
+        position: 0x5A,
+        bits: 0xFF,
+        value: 0x02,
+    },
+    Required {
+        position: 0x5B,
+        bits: 0xFF,
+        value: 0x04,
+    },
+    Required {
+        position: 0x5D,
+        bits: 0xFF,
+        value: 0x19,
+    },
+    Required {
+        position: 0x5E,
+        bits: 0xFF,
+        value: 0x34,
+    },
+];
+
+pub fn required(k: usize) -> Required
+    ensures { λ r. ⌜ Requires F75373s k r ⌝ }
+{
+    if REQUIRED <= k {
+        return NOTHING;
+    }
+    IDENTITY[k]
+}
+
+// "All fan table registers have mask FFh".
+const EVERY_BIT: Masks = Masks {
+    writable: 0xFF,
+    clears: 0x00,
+};
+
+// The registers of the fan tables: B1 to B4, C1 to C5, high byte first.
+pub fn register(number: u8, k: usize) -> Register
+    ensures { λ r. ⌜ Stands F75373s number k r ⌝ }
+{
+    match number {
+        1 => in_a_row(0xA0, 14, EVERY_BIT, k),
+        2 => in_a_row(0xB0, 14, EVERY_BIT, k),
+        _ => NO_REGISTER,
+    }
+}
+
+pub fn table(number: u8) -> Fan
+    ensures { λ r. ⌜ Lays F75373s number r ⌝ }
+{
+    match number {
+        1..=2 => Fan::Laid(Layout {
+            settings: 4,
+            speeds: 10,
+            shape: Shape::Steps,
+            whole: true,
+            selects: 0,
+            leading: false,
+        }),
+        _ => Fan::Nothing,
+    }
+}

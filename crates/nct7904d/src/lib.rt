@@ -1,0 +1,193 @@
+// The NCT7904D: its register card, a file for each column of a bank, its banks, its identity and its fan tables.
+mod power_on_0;
+mod power_on_1;
+mod power_on_2;
+mod power_on_3;
+mod power_on_4;
+mod writable_0;
+mod writable_1;
+mod writable_2;
+mod writable_3;
+mod writable_4;
+
+use pages::Fan;
+use pages::Layout;
+use pages::Masks;
+use pages::NO_REGISTER;
+use pages::NOTHING;
+use pages::Register;
+use pages::Required;
+use pages::Shape;
+ghost use mathlib.Core.Path.{_≡_};
+ghost use mathlib.Core.List.{map};
+ghost use Prim.Native.Nat.{_+_, _*_, _<_, _≤_};
+ghost use lib.ListN.{getD};
+ghost use Rattle.pages.specs.declared.Chip.the-variants.{Nct7904d};
+ghost use Rattle.pages.specs.Nct7904d.{card, table};
+ghost use Rattle.pages.specs.Rows.{masksIn, rowIn, positions, withMasks, noRegister, row};
+ghost use Rattle.pages.specs.Contracts.{Finds, PowersOn, Requires, Stands, Lays, Positions};
+
+const REQUIRED: usize = 6;
+
+// A bank at a time.
+fn writable(bank: usize, address: usize) -> u8
+    requires { ⌜ address < 256 ⌝ }
+    ensures { λ r. ⌜ r ≡ rowIn card (bank * 256 + address) .writable ⌝ }
+{
+    match bank {
+        0 => writable_0::WRITABLE[address],
+        1 => writable_1::WRITABLE[address],
+        2 => writable_2::WRITABLE[address],
+        3 => writable_3::WRITABLE[address],
+        4 => writable_4::WRITABLE[address],
+        _ => 0x00,
+    }
+}
+
+fn power_on(bank: usize, address: usize) -> u8
+    requires { ⌜ address < 256 ⌝ }
+    ensures { λ r. ⌜ r ≡ rowIn card (bank * 256 + address) .power ⌝ }
+{
+    match bank {
+        0 => power_on_0::POWER_ON[address],
+        1 => power_on_1::POWER_ON[address],
+        2 => power_on_2::POWER_ON[address],
+        3 => power_on_3::POWER_ON[address],
+        4 => power_on_4::POWER_ON[address],
+        _ => 0x00,
+    }
+}
+
+pub fn masks(position: usize) -> Masks
+    ensures { λ r. ⌜ Finds Nct7904d position r ⌝ }
+{
+    Masks {
+        writable: writable(position / 256, position % 256),
+        clears: 0x00,
+    }
+}
+
+pub fn power(position: usize) -> u8
+    ensures { λ r. ⌜ PowersOn Nct7904d position r ⌝ }
+{
+    power_on(position / 256, position % 256)
+}
+
+// The vendor, chip and device registers with bank select are seen in every bank.
+pub fn position(bank: u8, address: u8) -> usize
+    ensures { λ r. ⌜ Positions Nct7904d bank address r ⌝ }
+{
+    match address {
+        0x7A => 0x7A,
+        0x7B => 0x7B,
+        0x7C => 0x7C,
+        0xFF => 0xFF,
+        _ => bank as usize * 256 + address as usize,
+    }
+}
+
+// The registers that identity looks at, all of them required.
+const IDENTITY: [Required; REQUIRED] = [
+    Required {
+        position: 0x0D,
+        bits: 0xFF,
+        value: 0x50,
+    },
+    Required {
+        position: 0x0E,
+        bits: 0xFF,
+        value: 0xC5,
+    },
+    Required {
+        position: 0x0F,
+        bits: 0xF0,
+        value: 0x50,
+    },
+    Required {
+        position: 0x7A,
+        bits: 0xFF,
+        value: 0x50,
+    },
+    Required {
+        position: 0x7B,
+        bits: 0xFF,
+        value: 0xC5,
+    },
+    Required {
+        position: 0x7C,
+        bits: 0xF0,
+        value: 0x50,
+    },
+];
+
+pub fn required(k: usize) -> Required
+    ensures { λ r. ⌜ Requires Nct7904d k r ⌝ }
+{
+    if REQUIRED <= k {
+        return NOTHING;
+    }
+    IDENTITY[k]
+}
+
+// The k-th register of a table by where critical and T1 stand: T1 to T4, critical, P1 to P4 behind T4.
+fn in_table(critical: usize, first: usize, k: usize) -> Register
+    requires { ⌜ first ≤ 1280 ⌝ }
+    ensures { λ r. ⌜ r ≡ getD (map (withMasks (masksIn (row 0xFF 0x00 0x00))) (positions (table critical first))) k noRegister ⌝ }
+{
+    if 9 <= k {
+        return NO_REGISTER;
+    }
+    let places = [
+        first,
+        first + 1,
+        first + 2,
+        first + 3,
+        critical,
+        first + 4,
+        first + 5,
+        first + 6,
+        first + 7,
+    ];
+    Register {
+        position: places[k],
+        masks: Masks {
+            writable: 0xFF,
+            clears: 0x00,
+        },
+    }
+}
+
+// Tables 1 to 4 stand in bank 3, tables 5 to 10 in bank 4.
+pub fn register(number: u8, k: usize) -> Register
+    ensures { λ r. ⌜ Stands Nct7904d number k r ⌝ }
+{
+    match number {
+        1 => in_table(0x320, 0x330, k),
+        2 => in_table(0x321, 0x338, k),
+        3 => in_table(0x322, 0x340, k),
+        4 => in_table(0x323, 0x348, k),
+        5 => in_table(0x410, 0x430, k),
+        6 => in_table(0x411, 0x438, k),
+        7 => in_table(0x412, 0x440, k),
+        8 => in_table(0x413, 0x448, k),
+        9 => in_table(0x414, 0x450, k),
+        10 => in_table(0x415, 0x458, k),
+        _ => NO_REGISTER,
+    }
+}
+
+pub fn table(number: u8) -> Fan
+    ensures { λ r. ⌜ Lays Nct7904d number r ⌝ }
+{
+    match number {
+        1..=10 => Fan::Laid(Layout {
+            settings: 5,
+            speeds: 4,
+            shape: Shape::Slope(255),
+            whole: true,
+            selects: 1,
+            leading: true,
+        }),
+        _ => Fan::Nothing,
+    }
+}

@@ -1,0 +1,48 @@
+-- No second answer of a look-up meets its contract.
+-- Assumes nothing.
+use Prim.Native.Nat.{ℕ}
+use mathlib.Core.Path.{_≡_, sym, _∙_}
+use Rattle.pages.specs.declared.Chip.{Chip}
+use Rattle.pages.specs.declared.Named.{Named}
+use Rattle.pages.specs.declared.Fan.{Fan}
+use Rattle.pages.specs.declared.Layout.{Layout}
+use Rattle.pages.specs.declared.Masks.{Masks}
+use Rattle.pages.specs.declared.Register.{Register}
+use Rattle.pages.specs.declared.Required.{Required}
+use Rattle.pages.specs.declared.Selector.{Selector}
+use Rattle.pages.specs.declared.Sizes.{Sizes}
+use Rattle.pages.specs.Contracts.{Names, Finds, PowersOn, TellsSizes, Requires, Lays, LaysOut, Stands, Selects, Positions, StandsInARow}
+
+pub names-unique : {number : ℕ} {r s : Named} → Names number r → Names number s → r ≡ s
+names-unique p q = p .answer ∙ sym (q .answer)
+
+pub finds-unique : {chip : Chip} {position : ℕ} {r s : Masks} → Finds chip position r → Finds chip position s → r ≡ s
+finds-unique p q = p .answer ∙ sym (q .answer)
+
+pub powers-on-unique : {chip : Chip} {position r s : ℕ} → PowersOn chip position r → PowersOn chip position s → r ≡ s
+powers-on-unique p q = p .answer ∙ sym (q .answer)
+
+pub measures-unique : {chip : Chip} {r s : Sizes} → TellsSizes chip r → TellsSizes chip s → r ≡ s
+measures-unique p q = p .answer ∙ sym (q .answer)
+
+pub requires-unique : {chip : Chip} {k : ℕ} {r s : Required} → Requires chip k r → Requires chip k s → r ≡ s
+requires-unique p q = p .answer ∙ sym (q .answer)
+
+pub lays-unique : {chip : Chip} {number : ℕ} {r s : Fan} → Lays chip number r → Lays chip number s → r ≡ s
+lays-unique p q = p .answer ∙ sym (q .answer)
+
+pub lays-out-unique : {chip : Chip} {number : ℕ} {r s : Layout} → LaysOut chip number r → LaysOut chip number s → r ≡ s
+lays-out-unique p q = p .answer ∙ sym (q .answer)
+
+pub stands-unique : {chip : Chip} {number k : ℕ} {r s : Register} → Stands chip number k r → Stands chip number k s → r ≡ s
+stands-unique p q = p .answer ∙ sym (q .answer)
+
+pub selects-unique : {chip : Chip} {r s : Selector} → Selects chip r → Selects chip s → r ≡ s
+selects-unique p q = p .answer ∙ sym (q .answer)
+
+pub positions-unique : {chip : Chip} {bank address r s : ℕ} → Positions chip bank address r → Positions chip bank address s → r ≡ s
+positions-unique p q = p .answer ∙ sym (q .answer)
+
+pub in-a-row-unique : {first count : ℕ} {masks : Masks} {k : ℕ} {r s : Register}
+    → StandsInARow first count masks k r → StandsInARow first count masks k s → r ≡ s
+in-a-row-unique p q = p .answer ∙ sym (q .answer)
