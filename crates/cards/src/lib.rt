@@ -1,8 +1,10 @@
 // What the chips' pages say, looked up in the crate of the chip.
 use pages::Chip;
 use pages::Fan;
+use pages::Ground;
 use pages::Layout;
 use pages::Masks;
+use pages::NO_GROUND;
 use pages::NO_REGISTER;
 use pages::NOTHING;
 use pages::Named;
@@ -121,15 +123,15 @@ pub fn layout_of(chip: Chip, number: u8) -> Layout
     }
 }
 
-// The k-th register of a fan table, settings first, and one without masks where there is none.
-pub fn register_of(chip: Chip, number: u8, k: usize) -> Register
-    ensures { λ r. ⌜ Stands chip number k r ⌝ }
+// Where the registers of a fan table stand; nowhere where there is none.
+pub fn ground_of(chip: Chip, number: u8) -> Ground
+    ensures { λ r. ⌜ Stands chip number r ⌝ }
 {
     match chip {
-        Chip::Nct7802y => nct7802y::register(number, k),
-        Chip::F75373s => f75373s::register(number, k),
-        Chip::Nct80 => NO_REGISTER,
-        Chip::Nct7904d => nct7904d::register(number, k),
+        Chip::Nct7802y => nct7802y::ground(number),
+        Chip::F75373s => f75373s::ground(number),
+        Chip::Nct80 => NO_GROUND,
+        Chip::Nct7904d => nct7904d::ground(number),
     }
 }
 

@@ -18,13 +18,14 @@ use Rattle.pages.specs.declared.Chip.{Chip}
 use Rattle.pages.specs.declared.Named.{Named}
 use Rattle.pages.specs.declared.Named.the-variants.{Known}
 use Rattle.pages.specs.declared.Fan.{Fan}
+use Rattle.pages.specs.declared.Ground.{Ground}
 use Rattle.pages.specs.declared.Masks.{Masks}
 use Rattle.pages.specs.declared.Register.{Register}
 use Rattle.pages.specs.declared.Shape.{Shape}
 use Rattle.pages.specs.Banks.{oneBank}
 use Rattle.pages.specs.Sheets.{missing, layout}
 use Rattle.pages.specs.Cards.{chipOf, unknown, hasTable, tellsNamed, tellsFan}
-use Rattle.pages.specs.Contracts.{Names, Finds, PowersOn, TellsSizes, Requires, Lays, LaysOut, Stands, Selects, Positions, StandsInARow}
+use Rattle.pages.specs.Contracts.{Names, Finds, PowersOn, TellsSizes, Requires, Lays, LaysOut, Stands, Selects, Positions, StandsInOneRow, StandsAt}
 use Rattle.pages.specs.Identity.{confirmed}
 use Rattle.images.specs.declared.Admitted.{Admitted}
 use Rattle.images.specs.declared.ByteRead.{ByteRead}
@@ -96,10 +97,11 @@ pub record Demand1 : Type 0 where
   pub table-of : (chip : Chip) (number : ℕ) (r : Fan) → Lays chip number r
       → Answered ((not (hasTable chip number), 4) ∷ []) (layout oneBank [] missing) (tellsFan r)
   pub layout-of : (chip : Chip) (number : ℕ) → Given (λ facts. LaysOut chip number facts)
-  pub register-of : (chip : Chip) (number k : ℕ) → Given (λ register. Stands chip number k register)
+  pub ground-of : (chip : Chip) (number : ℕ) → Given (λ ground. Stands chip number ground)
   pub selector-of : (chip : Chip) → Given (λ selector. Selects chip selector)
   pub position-of : (chip : Chip) (bank address : ℕ) → Given (λ position. Positions chip bank address position)
-  pub in-a-row : (first count : ℕ) (masks : Masks) (k : ℕ) → Given (λ register. StandsInARow first count masks k register)
+  pub one-row : (first settings speeds : ℕ) (masks : Masks) → Given (λ ground. StandsInOneRow first settings speeds masks ground)
+  pub register-at : (ground : Ground) (k : ℕ) → Given (λ register. StandsAt ground k register)
   -- register images
   pub admit : (chip size : ℕ) (r : Admitted) → images.Admits chip size r → Answered (images.sizeChecks chip size) 0 (images.tellsAdmitted r)
   pub write : (chip : ℕ) (old : List ℕ) (address byte : ℕ) (r : Outcome) (new : List ℕ) → images.WritesByte chip old address byte r new

@@ -3,15 +3,15 @@ mod power_on;
 mod writable;
 
 use pages::Fan;
+use pages::Ground;
 use pages::Layout;
 use pages::Masks;
+use pages::NO_GROUND;
 use pages::NO_MASKS;
-use pages::NO_REGISTER;
 use pages::NOTHING;
-use pages::Register;
 use pages::Required;
 use pages::Shape;
-use pages::in_a_row;
+use pages::one_row;
 use power_on::POWER_ON;
 use writable::WRITABLE;
 ghost use mathlib.Core.Path.{_≡_};
@@ -96,13 +96,13 @@ const EVERY_BIT: Masks = Masks {
 };
 
 // The registers of the fan tables: B1 to B4, C1 to C5, high byte first.
-pub fn register(number: u8, k: usize) -> Register
-    ensures { λ r. ⌜ Stands F75373s number k r ⌝ }
+pub fn ground(number: u8) -> Ground
+    ensures { λ r. ⌜ Stands F75373s number r ⌝ }
 {
     match number {
-        1 => in_a_row(0xA0, 14, EVERY_BIT, k),
-        2 => in_a_row(0xB0, 14, EVERY_BIT, k),
-        _ => NO_REGISTER,
+        1 => one_row(0xA0, 3, 10, EVERY_BIT),
+        2 => one_row(0xB0, 3, 10, EVERY_BIT),
+        _ => NO_GROUND,
     }
 }
 

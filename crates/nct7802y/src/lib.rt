@@ -3,15 +3,15 @@ mod power_on;
 mod writable;
 
 use pages::Fan;
+use pages::Ground;
 use pages::Layout;
 use pages::Masks;
+use pages::NO_GROUND;
 use pages::NO_MASKS;
-use pages::NO_REGISTER;
 use pages::NOTHING;
-use pages::Register;
 use pages::Required;
 use pages::Shape;
-use pages::in_a_row;
+use pages::one_row;
 use power_on::POWER_ON;
 use writable::WRITABLE;
 ghost use Rattle.pages.specs.declared.Chip.the-variants.{Nct7802y};
@@ -86,15 +86,15 @@ const EVERY_BIT: Masks = Masks {
     clears: 0x00,
 };
 
-// The registers of the fan tables: T1 to T4, critical, FL1 to FL4.
-pub fn register(number: u8, k: usize) -> Register
-    ensures { λ r. ⌜ Stands Nct7802y number k r ⌝ }
+// The registers of the fan tables: T1 to T4 and critical, FL1 to FL4.
+pub fn ground(number: u8) -> Ground
+    ensures { λ r. ⌜ Stands Nct7802y number r ⌝ }
 {
     match number {
-        1 => in_a_row(0x80, 9, EVERY_BIT, k),
-        2 => in_a_row(0x90, 9, EVERY_BIT, k),
-        3 => in_a_row(0xA0, 9, EVERY_BIT, k),
-        _ => NO_REGISTER,
+        1 => one_row(0x80, 4, 4, EVERY_BIT),
+        2 => one_row(0x90, 4, 4, EVERY_BIT),
+        3 => one_row(0xA0, 4, 4, EVERY_BIT),
+        _ => NO_GROUND,
     }
 }
 

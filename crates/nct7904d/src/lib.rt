@@ -11,20 +11,19 @@ mod writable_3;
 mod writable_4;
 
 use pages::Fan;
+use pages::Ground;
 use pages::Layout;
 use pages::Masks;
-use pages::NO_REGISTER;
+use pages::NO_GROUND;
 use pages::NOTHING;
-use pages::Register;
 use pages::Required;
 use pages::Shape;
+use pages::Stretch;
 ghost use mathlib.Core.Path.{_≡_};
-ghost use mathlib.Core.List.{map};
 ghost use Prim.Native.Nat.{_+_, _*_, _<_, _≤_};
-ghost use lib.ListN.{getD};
 ghost use Rattle.pages.specs.declared.Chip.the-variants.{Nct7904d};
-ghost use Rattle.pages.specs.Nct7904d.{card, table};
-ghost use Rattle.pages.specs.Rows.{masksIn, rowIn, positions, withMasks, noRegister, row};
+ghost use Rattle.pages.specs.Nct7904d.{card};
+ghost use Rattle.pages.specs.Rows.{rowIn, everyBit, stretch};
 ghost use Rattle.pages.specs.Contracts.{Finds, PowersOn, Requires, Stands, Lays, Positions};
 
 const REQUIRED: usize = 6;
@@ -129,50 +128,52 @@ pub fn required(k: usize) -> Required
     IDENTITY[k]
 }
 
-// The k-th register of a table by where critical and T1 stand: T1 to T4, critical, P1 to P4 behind T4.
-fn in_table(critical: usize, first: usize, k: usize) -> Register
+// Every bit of a fan table's registers may be written.
+const EVERY_BIT: Masks = Masks {
+    writable: 0xFF,
+    clears: 0x00,
+};
+
+// A table by where critical and T1 stand: T1 to T4, critical, P1 to P4 behind T4.
+fn in_table(critical: u16, first: u16) -> Ground
     requires { ⌜ first ≤ 1280 ⌝ }
-    ensures { λ r. ⌜ r ≡ getD (map (withMasks (masksIn (row 0xFF 0x00 0x00))) (positions (table critical first))) k noRegister ⌝ }
+    ensures { λ r. ⌜ r ≡ record { settings = stretch first 4 everyBit; last = stretch critical 1 everyBit; speeds = stretch (first + 4) 4 everyBit } ⌝ }
 {
-    if 9 <= k {
-        return NO_REGISTER;
-    }
-    let places = [
-        first,
-        first + 1,
-        first + 2,
-        first + 3,
-        critical,
-        first + 4,
-        first + 5,
-        first + 6,
-        first + 7,
-    ];
-    Register {
-        position: places[k],
-        masks: Masks {
-            writable: 0xFF,
-            clears: 0x00,
+    Ground {
+        settings: Stretch {
+            first,
+            count: 4,
+            masks: EVERY_BIT,
+        },
+        last: Stretch {
+            first: critical,
+            count: 1,
+            masks: EVERY_BIT,
+        },
+        speeds: Stretch {
+            first: first + 4,
+            count: 4,
+            masks: EVERY_BIT,
         },
     }
 }
 
 // Tables 1 to 4 stand in bank 3, tables 5 to 10 in bank 4.
-pub fn register(number: u8, k: usize) -> Register
-    ensures { λ r. ⌜ Stands Nct7904d number k r ⌝ }
+pub fn ground(number: u8) -> Ground
+    ensures { λ r. ⌜ Stands Nct7904d number r ⌝ }
 {
     match number {
-        1 => in_table(0x320, 0x330, k),
-        2 => in_table(0x321, 0x338, k),
-        3 => in_table(0x322, 0x340, k),
-        4 => in_table(0x323, 0x348, k),
-        5 => in_table(0x410, 0x430, k),
-        6 => in_table(0x411, 0x438, k),
-        7 => in_table(0x412, 0x440, k),
-        8 => in_table(0x413, 0x448, k),
-        9 => in_table(0x414, 0x450, k),
-        10 => in_table(0x415, 0x458, k),
-        _ => NO_REGISTER,
+        1 => in_table(0x320, 0x330),
+        2 => in_table(0x321, 0x338),
+        3 => in_table(0x322, 0x340),
+        4 => in_table(0x323, 0x348),
+        5 => in_table(0x410, 0x430),
+        6 => in_table(0x411, 0x438),
+        7 => in_table(0x412, 0x440),
+        8 => in_table(0x413, 0x448),
+        9 => in_table(0x414, 0x450),
+        10 => in_table(0x415, 0x458),
+        _ => NO_GROUND,
     }
 }
 

@@ -8,16 +8,17 @@ use mathlib.Core.List.{List, [], _∷_, _++_}
 use borrow.Author.Tests.{leb-true, ltb-true}
 use lib.Bits.{bitAnd}
 use lib.Dec.{eqb, leb, ltb}
-use lib.ListN.{length, getD, take}
+use lib.ListN.{length, getD, take, drop}
 use Rattle.pages.specs.declared.Chip.{Chip}
 use Rattle.pages.specs.declared.Chip.the-variants.{Nct7802y, F75373s, Nct80, Nct7904d}
 use Rattle.pages.specs.declared.Layout.{Layout}
+use Rattle.pages.specs.declared.Masks.{Masks}
 use Rattle.pages.specs.declared.Required.{Required}
 use Rattle.pages.specs.declared.Shape.{Shape}
 use Rattle.pages.specs.declared.Shape.the-variants.{Slope, Steps}
 use Rattle.pages.specs.Banks.{Banks, sharedIn, standsIn, asideIn, noBank, selectsFrom}
 use Rattle.pages.specs.Rows.{every, Line, Row, Table, positions, rowIn, column}
-use Rattle.pages.specs.Sheets.{greatest, Sheet, powerOnIn, tableIn, room, wholeIn, loaded, layout}
+use Rattle.pages.specs.Sheets.{greatest, Sheet, powerOnIn, tableIn, room, wholeIn, loaded, layout, stretchOf}
 use Rattle.pages.specs.Cards.{sheetOf}
 use Rattle.pages.specs.Identity.{allHold}
 use Rattle.pages.specs.Nct7802y as nct7802y
@@ -126,6 +127,22 @@ abbrev pub behind : ℕ → List ℕ → Bool
 behind least [] = true
 behind least (p ∷ ps) = leb least p && behind (suc p) ps
 
+-- some positions are in a row from the first on, and their registers have these masks
+abbrev pub inARow : List Line → Masks → ℕ → List ℕ → Bool
+inARow card masks first [] = true
+inARow card masks first (p ∷ ps) =
+    eqb first p
+    && (eqb (masks .writable) (rowIn card p .writable) && (eqb (masks .clears) (rowIn card p .clears) && inARow card masks (suc first) ps))
+
+abbrev pub isStretch : List Line → List ℕ → Bool
+isStretch card ps = inARow card (stretchOf card ps .masks) (stretchOf card ps .first) ps
+
+-- a table stands in stretches: its settings but for the last, the last, its speeds
+abbrev pub inStretches : List Line → Table → Bool
+inStretches card table =
+    isStretch card (take (length (table .settings) - 1) (table .settings))
+    && (isStretch card (drop (length (table .settings) - 1) (table .settings)) && isStretch card (table .speeds))
+
 -- what a text has room for: the lines of a plan, a header of at most 35 bytes and 6 for each write, are no more than ten for each byte of its record,
 -- whose header has 4; and no script has more than 24 writes
 abbrev pub brief : Layout → Bool
@@ -151,6 +168,7 @@ tests sheet =
     ∷ ltb (sheet .banks .bits) (2 ^ 8)
     ∷ every (λ table. brief (layout (sheet .banks) (sheet .card) table)) (sheet .tables)
     ∷ every (λ table. behind 0 (recorded table)) (sheet .tables)
+    ∷ every (inStretches (sheet .card)) (sheet .tables)
     ∷ []
 
 unfoldable pub sound : Sheet → Bool
@@ -179,9 +197,11 @@ pub record Sound (sheet : Sheet) : Type 0 where
   pub texts : So (every (λ table. brief (layout (sheet .banks) (sheet .card) table)) (sheet .tables))
   -- a record is in register order
   pub records : So (every (λ table. behind 0 (recorded table)) (sheet .tables))
+  -- what the ground of a table can say
+  pub stretches : So (every (inStretches (sheet .card)) (sheet .tables))
 
 module _ (sheet : Sheet) (t : So (sound sheet)) where
-  part : (k : ℕ) → k < 16 → So (getD (tests sheet) k true)
+  part : (k : ℕ) → k < 17 → So (getD (tests sheet) k true)
   unfolding sound
   part k h = of-every (λ test. test) (tests sheet) true t k h
 
@@ -204,6 +224,7 @@ module _ (sheet : Sheet) (t : So (sound sheet)) where
         bits = ltb-true (sheet .banks .bits) (2 ^ 8) (part 13 (omega arith));
         texts = part 14 (omega arith);
         records = part 15 (omega arith);
+        stretches = part 16 (omega arith);
       }
 
 -- the only law that goes by the chip

@@ -1,28 +1,30 @@
 -- The registers of a fan table are distinct positions that the bus reaches, and a speed's takes the full duty: of any page that passes its test,
--- carried to each register; and what the answers of `table_of` and `register_of` tell of them.
+-- carried to each register; and what the answers of `table_of` and `ground_of` tell of them.
 -- Assumes nothing.
-use Prim.Native.Nat.{ℕ, zero, suc, _+_, _*_, _/_, _^_, _≤_, _<_}
+use Prim.Native.Nat.{ℕ, zero, suc, _+_, _-_, _*_, _/_, _^_, _≤_, _<_}
 use native.Mathlib.Nat.{mod-eq-of-lt}
 use native.Mathlib.Omega.{arith}
 use mathlib.Core.Path.{_≡_, refl, sym, ap, subst, _∙_}
 use mathlib.Core.Bool.{Bool, true, false, So, cond, true≢false, _&&_}
-use mathlib.Core.List.{List, [], _∷_, map}
+use mathlib.Core.List.{List, [], _∷_, _++_, map, map-append, append-assoc}
 use borrow.Author.Tests.{leb-false, eqb-true, ltb-true, ltb-false, leb-true, le-leb}
 use lib.Bits.{bitAnd, and-mask}
 use lib.Dec.{eqb, leb, ltb}
-use lib.ListN.{length, getD, List·getD-eq-default}
+use lib.ListN.{length, getD, take, drop, take-append-drop, List·getD-eq-default}
 use Rattle.pages.specs.declared.Chip.{Chip}
+use Rattle.pages.specs.declared.Masks.{Masks}
+use Rattle.pages.specs.declared.Register.{Register}
 use Rattle.pages.specs.declared.Shape.{Shape}
 use Rattle.pages.specs.declared.Shape.the-variants.{Slope, Steps}
 use Rattle.pages.specs.declared.Layout.{Layout}
 use Rattle.pages.specs.declared.Fan.{Fan}
 use Rattle.pages.specs.declared.Fan.the-variants.{Laid, Nothing}
 use Rattle.pages.specs.Banks.{noBank, selectsFrom}
-use Rattle.pages.specs.Rows.{every, Line, Table, positions, rowIn, registerAt, noRegister}
-use Rattle.pages.specs.Sheets.{Sheet, missing, room, hasTableIn, tableIn, wholeIn, loaded, layout, laidIn, registerIn}
-use Rattle.pages.specs.Cards.{sheetOf, cardOf, banksOf, sizeOf, rowOf, tablesOf, hasTable, tableOf, shapeOf, layoutOf}
+use Rattle.pages.specs.Rows.{every, Line, Table, positions, rowIn, withMasks, registerAt, noRegister, from, spreadAll, standsAt}
+use Rattle.pages.specs.Sheets.{Sheet, missing, room, hasTableIn, tableIn, wholeIn, loaded, layout, laidIn, registerIn, stretchOf, groundIn}
+use Rattle.pages.specs.Cards.{sheetOf, cardOf, banksOf, sizeOf, rowOf, tablesOf, hasTable, tableOf, shapeOf, layoutOf, groundOf}
 use Rattle.pages.proofs.Every.{both, of-every, everywhere, map-at, distinct, apart}
-use Rattle.pages.proofs.Sound.{stands, reaches, reachesAt, separate, sized, ofShape, both-or-neither, alike, brief, Sound, sound-sheet}
+use Rattle.pages.proofs.Sound.{stands, reaches, reachesAt, separate, sized, ofShape, both-or-neither, alike, inARow, isStretch, inStretches, brief, Sound, sound-sheet}
 
 -- tables have the numbers from 1 on
 numbered : (tables : List Table) (number : ℕ) → So (hasTableIn tables number) → (1 ≤ number) × (number ≤ length tables)
@@ -45,21 +47,49 @@ no-table : (tables : List Table) (number : ℕ) → hasTableIn tables number ≡
 no-table tables zero e = refl
 no-table tables (suc n) e = List·getD-eq-default tables missing (omega (arith, leb-false (suc n) (length tables) (rw (le-leb 1 (suc n) (omega arith)) at e)))
 
--- and there is no register
-pub no-register : (sheet : Sheet) (number k : ℕ) → (1 ≤ number → number ≤ length (sheet .tables) → ⊥) → registerIn sheet number k ≡ noRegister
-no-register sheet zero k h = refl
-no-register sheet (suc n) k h =
-    ap (λ (t : Table). getD (map (registerAt (sheet .card)) (positions t)) k noRegister)
-    (List·getD-eq-default (sheet .tables) missing (beyond (h (omega arith))))
-  where
-    beyond : (suc n ≤ length (sheet .tables) → ⊥) → length (sheet .tables) ≤ n
-    beyond f = omega (arith, f)
+-- and nothing stands anywhere
+pub no-ground : (sheet : Sheet) (number : ℕ) → (1 ≤ number → number ≤ length (sheet .tables) → ⊥)
+    → groundIn (sheet .card) (tableIn (sheet .tables) number) ≡ groundIn (sheet .card) missing
+no-ground sheet number h =
+    ap (groundIn (sheet .card)) (no-table (sheet .tables) number (no-number number (length (sheet .tables)) h))
 
 -- the registers at some positions stand there, and what stands in behind the last is at 0
 position-among : (card : List Line) (ps : List ℕ) (k : ℕ) → getD (map (registerAt card) ps) k noRegister .position ≡ getD ps k 0
 position-among card [] k = refl
 position-among card (p ∷ ps) zero = refl
 position-among card (p ∷ ps) (suc k) = position-among card ps k
+
+-- positions that pass as a stretch are its registers, with the masks that the card has
+stretch-spread : (card : List Line) (masks : Masks) (first : ℕ) (ps : List ℕ) → So (inARow card masks first ps)
+    → map (withMasks masks) (from first (length ps)) ≡ map (registerAt card) ps
+stretch-spread card masks first [] t = refl
+stretch-spread card masks first (p ∷ ps) t =
+    let place = both (eqb first p) _ t in
+    let writable = both (eqb (masks .writable) (rowIn card p .writable)) _ (place .1) in
+    let clears = both (eqb (masks .clears) (rowIn card p .clears)) _ (writable .1) in
+    let at = eqb-true first p (place .0) in
+    let w = eqb-true (masks .writable) (rowIn card p .writable) (writable .0) in
+    let c = eqb-true (masks .clears) (rowIn card p .clears) (clears .0) in
+    let rest = stretch-spread card masks (suc first) ps (clears .1) in
+    (λ i. record { position = at i; masks = record { writable = w i; clears = c i } } ∷ rest i)
+
+-- a table that stands in stretches stands there
+ground-spread : (card : List Line) (table : Table) → So (inStretches card table) → spreadAll (groundIn card table) ≡ map (registerAt card) (positions table)
+ground-spread card table t =
+    let n = length (table .settings) - 1 in
+    let front = take n (table .settings) in
+    let back = drop n (table .settings) in
+    let settings = both (isStretch card front) _ t in
+    let last = both (isStretch card back) _ (settings .1) in
+    let a = stretch-spread card (stretchOf card front .masks) (stretchOf card front .first) front (settings .0) in
+    let b = stretch-spread card (stretchOf card back .masks) (stretchOf card back .first) back (last .0) in
+    let c = stretch-spread card (stretchOf card (table .speeds) .masks) (stretchOf card (table .speeds) .first) (table .speeds) (last .1) in
+    let f = registerAt card in
+    (λ i. a i ++ (b i ++ c i))
+    ∙ sym (append-assoc (map f front) (map f back) (map f (table .speeds)))
+    ∙ ap (λ (l : List Register). l ++ map f (table .speeds)) (sym (map-append f front back))
+    ∙ ap (λ (l : List ℕ). map f l ++ map f (table .speeds)) (take-append-drop n (table .settings))
+    ∙ sym (map-append f (table .settings) (table .speeds))
 
 one-shape : (a b : Shape) → So (ofShape a b) → a ≡ b
 one-shape (Slope full) (Slope other) t = ap Slope (eqb-true full other t)
@@ -120,6 +150,11 @@ module _ (sheet : Sheet) (S : Sound sheet) (number : ℕ) where
       let position = getD (positions table) k 0 in
       ltb-true position (sheet .size) (both (ltb position (sheet .size)) _ (of-every (stands sheet) (positions table) 0 all-stand k h) .0)
 
+  sheet-ground : standsAt (groundIn (sheet .card) table) ≡ registerIn sheet number
+  sheet-ground =
+      let same = ground-spread (sheet .card) table (everywhere (inStretches (sheet .card)) (missing ∷ sheet .tables) missing refl (S .stretches) number) in
+      (λ i k. getD (same i) k noRegister)
+
 -- of a table that it has
 module _ (sheet : Sheet) (S : Sound sheet) (number : ℕ) (has : So (hasTableIn (sheet .tables) number)) where
   of-tables : (test : Table → Bool) → So (every test (sheet .tables)) → So (test (tableIn (sheet .tables) number))
@@ -166,7 +201,11 @@ module _ (chip : Chip) (number : ℕ) where
   unfolding rowOf
   table-reaches k h = sheet-reaches (sheetOf chip) (sound-sheet chip) number k h
 
-  -- what `register_of` tells: each register with its own masks ..
+  -- where its registers stand
+  pub table-ground : standsAt (groundOf chip number) ≡ registerIn (sheetOf chip) number
+  table-ground = sheet-ground (sheetOf chip) (sound-sheet chip) number
+
+  -- each register with its own masks ..
   pub register-at : (k : ℕ) → k < length (positions (tableOf chip number))
       → registerIn (sheetOf chip) number k ≡ registerAt (cardOf chip) (getD (positions (tableOf chip number)) k 0)
   register-at = map-at (registerAt (cardOf chip)) (positions (tableOf chip number)) 0 noRegister

@@ -7,11 +7,12 @@ use Rattle.pages.specs.declared.Named.{Named}
 use Rattle.pages.specs.declared.Fan.{Fan}
 use Rattle.pages.specs.declared.Layout.{Layout}
 use Rattle.pages.specs.declared.Masks.{Masks}
+use Rattle.pages.specs.declared.Ground.{Ground}
 use Rattle.pages.specs.declared.Register.{Register}
 use Rattle.pages.specs.declared.Required.{Required}
 use Rattle.pages.specs.declared.Selector.{Selector}
 use Rattle.pages.specs.declared.Sizes.{Sizes}
-use Rattle.pages.specs.Contracts.{Names, Finds, PowersOn, TellsSizes, Requires, Lays, LaysOut, Stands, Selects, Positions, StandsInARow}
+use Rattle.pages.specs.Contracts.{Names, Finds, PowersOn, TellsSizes, Requires, Lays, LaysOut, Stands, Selects, Positions, StandsInOneRow, StandsAt}
 
 pub names-unique : {number : ℕ} {r s : Named} → Names number r → Names number s → r ≡ s
 names-unique p q = p .answer ∙ sym (q .answer)
@@ -34,7 +35,7 @@ lays-unique p q = p .answer ∙ sym (q .answer)
 pub lays-out-unique : {chip : Chip} {number : ℕ} {r s : Layout} → LaysOut chip number r → LaysOut chip number s → r ≡ s
 lays-out-unique p q = p .answer ∙ sym (q .answer)
 
-pub stands-unique : {chip : Chip} {number k : ℕ} {r s : Register} → Stands chip number k r → Stands chip number k s → r ≡ s
+pub stands-unique : {chip : Chip} {number : ℕ} {r s : Ground} → Stands chip number r → Stands chip number s → r ≡ s
 stands-unique p q = p .answer ∙ sym (q .answer)
 
 pub selects-unique : {chip : Chip} {r s : Selector} → Selects chip r → Selects chip s → r ≡ s
@@ -43,6 +44,9 @@ selects-unique p q = p .answer ∙ sym (q .answer)
 pub positions-unique : {chip : Chip} {bank address r s : ℕ} → Positions chip bank address r → Positions chip bank address s → r ≡ s
 positions-unique p q = p .answer ∙ sym (q .answer)
 
-pub in-a-row-unique : {first count : ℕ} {masks : Masks} {k : ℕ} {r s : Register}
-    → StandsInARow first count masks k r → StandsInARow first count masks k s → r ≡ s
-in-a-row-unique p q = p .answer ∙ sym (q .answer)
+pub one-row-unique : {first settings speeds : ℕ} {masks : Masks} {r s : Ground}
+    → StandsInOneRow first settings speeds masks r → StandsInOneRow first settings speeds masks s → r ≡ s
+one-row-unique p q = p .answer ∙ sym (q .answer)
+
+pub stands-at-unique : {ground : Ground} {k : ℕ} {r s : Register} → StandsAt ground k r → StandsAt ground k s → r ≡ s
+stands-at-unique p q = p .answer ∙ sym (q .answer)

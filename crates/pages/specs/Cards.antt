@@ -14,9 +14,10 @@ use Rattle.pages.specs.declared.Shape.{Shape}
 use Rattle.pages.specs.declared.Fan.{Fan}
 use Rattle.pages.specs.declared.Fan.the-variants.{Laid, Nothing}
 use Rattle.pages.specs.declared.Layout.{Layout}
+use Rattle.pages.specs.declared.Ground.{Ground}
 use Rattle.pages.specs.Banks.{Banks, oneBank}
 use Rattle.pages.specs.Rows.{Line, Row, Table, rowIn}
-use Rattle.pages.specs.Sheets.{Sheet, powerOnIn, missing, hasTableIn, tableIn, layout}
+use Rattle.pages.specs.Sheets.{Sheet, powerOnIn, missing, hasTableIn, tableIn, layout, groundIn}
 use Rattle.pages.specs.Nct7802y as nct7802y
 use Rattle.pages.specs.F75373s as f75373s
 use Rattle.pages.specs.Nct80 as nct80
@@ -92,6 +93,9 @@ shapeOf chip number = tableOf chip number .shape
 
 abbrev pub layoutOf : Chip → ℕ → Layout
 layoutOf chip number = layout (banksOf chip) (cardOf chip) (tableOf chip number)
+
+abbrev pub groundOf : Chip → ℕ → Ground
+groundOf chip number = groundIn (cardOf chip) (tableOf chip number)
 
 -- refusal 4: "the chip has no such fan table"
 abbrev pub noTable : ℕ → ℕ → Bool

@@ -1,12 +1,11 @@
 -- What a look-up promises: that of a chip's own crate at its chip, and that of `cards` at every chip.
 -- Assumes nothing.
-use Prim.Native.Nat.{ℕ}
+use Prim.Native.Nat.{ℕ, _+_}
 use mathlib.Core.Path.{_≡_}
-use mathlib.Core.List.{map}
-use lib.ListN.{getD}
 use Rattle.pages.specs.declared.Chip.{Chip}
 use Rattle.pages.specs.declared.Named.{Named}
 use Rattle.pages.specs.declared.Masks.{Masks}
+use Rattle.pages.specs.declared.Ground.{Ground}
 use Rattle.pages.specs.declared.Register.{Register}
 use Rattle.pages.specs.declared.Required.{Required}
 use Rattle.pages.specs.declared.Selector.{Selector}
@@ -14,9 +13,9 @@ use Rattle.pages.specs.declared.Sizes.{Sizes}
 use Rattle.pages.specs.declared.Fan.{Fan}
 use Rattle.pages.specs.declared.Layout.{Layout}
 use Rattle.pages.specs.Banks.{standsIn}
-use Rattle.pages.specs.Rows.{masksIn, requiredIn, withMasks, noRegister, from}
-use Rattle.pages.specs.Sheets.{sizesIn, laidIn, registerIn, selectorIn}
-use Rattle.pages.specs.Cards.{sheetOf, chipOf, banksOf, rowOf, layoutOf}
+use Rattle.pages.specs.Rows.{masksIn, requiredIn, stretch, standsAt}
+use Rattle.pages.specs.Sheets.{sizesIn, laidIn, selectorIn}
+use Rattle.pages.specs.Cards.{sheetOf, chipOf, banksOf, rowOf, layoutOf, groundOf}
 
 -- what `cards::chip_of` promises
 pub record Names (number : ℕ) (named : Named) : Type 0 where
@@ -46,9 +45,9 @@ pub record Lays (chip : Chip) (number : ℕ) (fan : Fan) : Type 0 where
 pub record LaysOut (chip : Chip) (number : ℕ) (facts : Layout) : Type 0 where
   pub answer : facts ≡ layoutOf chip number
 
--- what `cards::register_of` and `register` of a chip promise
-pub record Stands (chip : Chip) (number k : ℕ) (register : Register) : Type 0 where
-  pub answer : register ≡ registerIn (sheetOf chip) number k
+-- what `cards::ground_of` and `ground` of a chip promise
+pub record Stands (chip : Chip) (number : ℕ) (ground : Ground) : Type 0 where
+  pub answer : ground ≡ groundOf chip number
 
 -- what `cards::selector_of` promises
 pub record Selects (chip : Chip) (selector : Selector) : Type 0 where
@@ -58,6 +57,11 @@ pub record Selects (chip : Chip) (selector : Selector) : Type 0 where
 pub record Positions (chip : Chip) (bank address position : ℕ) : Type 0 where
   pub answer : position ≡ standsIn (banksOf chip) bank address
 
--- what `pages::in_a_row` promises: the k-th of some registers that stand in a row and have the same masks, and none behind the last
-pub record StandsInARow (first count : ℕ) (masks : Masks) (k : ℕ) (register : Register) : Type 0 where
-  pub answer : register ≡ getD (map (withMasks masks) (from first count)) k noRegister
+-- what `pages::one_row` promises
+pub record StandsInOneRow (first settings speeds : ℕ) (masks : Masks) (ground : Ground) : Type 0 where
+  pub answer : ground
+      ≡ record { settings = stretch first settings masks; last = stretch (first + settings) 1 masks; speeds = stretch (first + settings + 1) speeds masks }
+
+-- what `pages::register_at` promises: the k-th register of the ground, and none behind the last
+pub record StandsAt (ground : Ground) (k : ℕ) (register : Register) : Type 0 where
+  pub answer : register ≡ standsAt ground k

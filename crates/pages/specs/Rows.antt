@@ -2,12 +2,14 @@
 -- Assumes nothing.
 use Prim.Native.Nat.{ℕ, zero, suc}
 use mathlib.Core.Bool.{Bool, true, cond, _&&_}
-use mathlib.Core.List.{List, [], _∷_, _++_}
+use mathlib.Core.List.{List, [], _∷_, _++_, map}
 use lib.Dec.{eqb}
 use lib.ListN.{getD}
 use Rattle.pages.specs.declared.Masks.{Masks}
+use Rattle.pages.specs.declared.Ground.{Ground}
 use Rattle.pages.specs.declared.Register.{Register}
 use Rattle.pages.specs.declared.Required.{Required}
+use Rattle.pages.specs.declared.Stretch.{Stretch}
 use Rattle.pages.specs.declared.Shape.{Shape}
 
 -- a test that holds of every entry
@@ -86,6 +88,24 @@ eachFrom f first (suc n) = f first ∷ eachFrom f (suc first) n
 -- n positions in a row
 abbrev pub from : ℕ → ℕ → List ℕ
 from first n = eachFrom (λ position. position) first n
+
+-- every bit may be written, "mask FFh"
+abbrev pub everyBit : Masks
+everyBit = record { writable = 0xFF; clears = 0x00 }
+
+-- registers in a row that have the same masks, and each of them
+abbrev pub stretch : ℕ → ℕ → Masks → Stretch
+stretch first count masks = record { first = first; count = count; masks = masks }
+
+abbrev pub spread : Stretch → List Register
+spread r = map (withMasks (r .masks)) (from (r .first) (r .count))
+
+-- each register of the ground of a fan table, settings first
+abbrev pub spreadAll : Ground → List Register
+spreadAll ground = spread (ground .settings) ++ (spread (ground .last) ++ spread (ground .speeds))
+
+abbrev pub standsAt : Ground → ℕ → Register
+standsAt ground k = getD (spreadAll ground) k noRegister
 
 -- a number for each of n positions, as "each of the 256 addresses"
 unfoldable pub column : ℕ → (ℕ → ℕ) → List ℕ

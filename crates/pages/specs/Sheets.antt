@@ -1,11 +1,13 @@
 -- A chip as one page of facts, everything that sets it apart from the others; and what is read off a page.
 -- Assumes nothing.
-use Prim.Native.Nat.{ℕ}
+use Prim.Native.Nat.{ℕ, _-_}
 use mathlib.Core.Bool.{Bool, false, cond, _&&_}
 use mathlib.Core.List.{List, [], _∷_, _++_, map}
 use lib.Dec.{eqb, leb}
-use lib.ListN.{length, getD}
+use lib.ListN.{length, getD, take, drop}
+use Rattle.pages.specs.declared.Ground.{Ground}
 use Rattle.pages.specs.declared.Register.{Register}
+use Rattle.pages.specs.declared.Stretch.{Stretch}
 use Rattle.pages.specs.declared.Selector.{Selector}
 use Rattle.pages.specs.declared.Required.{Required}
 use Rattle.pages.specs.declared.Sizes.{Sizes}
@@ -15,7 +17,7 @@ use Rattle.pages.specs.declared.Layout.{Layout}
 use Rattle.pages.specs.declared.Fan.{Fan}
 use Rattle.pages.specs.declared.Fan.the-variants.{Laid, Nothing}
 use Rattle.pages.specs.Banks.{Banks, noBank, selectsFrom}
-use Rattle.pages.specs.Rows.{every, Line, Table, Reading, positions, rowIn, registerAt, noRegister, column}
+use Rattle.pages.specs.Rows.{every, Line, Table, Reading, positions, rowIn, registerAt, noRegister, stretch, column}
 
 -- no image has more bytes
 abbrev pub greatest : ℕ
@@ -95,3 +97,16 @@ selectorIn sheet =
 -- the k-th register of a table, settings first
 abbrev pub registerIn : Sheet → ℕ → ℕ → Register
 registerIn sheet number k = getD (map (registerAt (sheet .card)) (positions (tableIn (sheet .tables) number))) k noRegister
+
+-- the stretch that some positions are: as many registers as these, from the first one on, with its masks
+abbrev pub stretchOf : List Line → List ℕ → Stretch
+stretchOf card ps = stretch (getD ps 0 0) (length ps) (getD (map (registerAt card) ps) 0 noRegister .masks)
+
+-- where a table stands: its settings but for the last, the last one, its speeds. That these are its registers, each page is tested for.
+abbrev pub groundIn : List Line → Table → Ground
+groundIn card table =
+    record {
+      settings = stretchOf card (take (length (table .settings) - 1) (table .settings));
+      last = stretchOf card (drop (length (table .settings) - 1) (table .settings));
+      speeds = stretchOf card (table .speeds);
+    }

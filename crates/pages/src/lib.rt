@@ -1,5 +1,8 @@
 // What the chips' pages and their callers speak of. The pages themselves are in specs/: facts, which the chips' crates look up.
-ghost use Rattle.pages.specs.Contracts.{StandsInARow};
+ghost use mathlib.Core.Path.{_≡_};
+ghost use lib.ListN.{getD};
+ghost use Rattle.pages.specs.Rows.{spread, noRegister};
+ghost use Rattle.pages.specs.Contracts.{StandsInOneRow, StandsAt};
 
 pub enum Chip {
     Nct7802y,
@@ -24,6 +27,20 @@ pub struct Masks {
 pub struct Register {
     pub position: usize,
     pub masks: Masks,
+}
+
+// Registers that stand in a row and have the same masks.
+pub struct Stretch {
+    pub first: u16,
+    pub count: u8,
+    pub masks: Masks,
+}
+
+// Where the registers of a fan table stand: its settings but for the last, the last one, which may stand apart from them, and its speeds.
+pub struct Ground {
+    pub settings: Stretch,
+    pub last: Stretch,
+    pub speeds: Stretch,
 }
 
 // The register that selects a bank, and its bits that say which; no bit where there is one bank only.
@@ -80,6 +97,20 @@ pub const NO_REGISTER: Register = Register {
     masks: NO_MASKS,
 };
 
+// No register at all.
+const NO_STRETCH: Stretch = Stretch {
+    first: 0,
+    count: 0,
+    masks: NO_MASKS,
+};
+
+// Where there is no table.
+pub const NO_GROUND: Ground = Ground {
+    settings: NO_STRETCH,
+    last: NO_STRETCH,
+    speeds: NO_STRETCH,
+};
+
 // No bit of any register.
 pub const NOTHING: Required = Required {
     position: 0,
@@ -87,15 +118,57 @@ pub const NOTHING: Required = Required {
     value: 0x00,
 };
 
-// The k-th of some registers that stand in a row and have the same masks, and none behind the last.
-pub fn in_a_row(first: u8, count: u8, masks: Masks, k: usize) -> Register
-    ensures { λ r. ⌜ StandsInARow first count masks k r ⌝ }
+// Where a table stands whose registers are all in a row: some settings and one more, then the speeds.
+pub fn one_row(first: u8, settings: u8, speeds: u8, masks: Masks) -> Ground
+    ensures { λ r. ⌜ StandsInOneRow first settings speeds masks r ⌝ }
 {
-    if count as usize <= k {
+    let last = first as u16 + settings as u16;
+    Ground {
+        settings: Stretch {
+            first: first as u16,
+            count: settings,
+            masks,
+        },
+        last: Stretch {
+            first: last,
+            count: 1,
+            masks,
+        },
+        speeds: Stretch {
+            first: last + 1,
+            count: speeds,
+            masks,
+        },
+    }
+}
+
+// The k-th register of a stretch, and none behind the last.
+fn in_a_row(stretch: Stretch, k: usize) -> Register
+    ensures { λ r. ⌜ r ≡ getD (spread stretch) k noRegister ⌝ }
+{
+    if stretch.count as usize <= k {
         return NO_REGISTER;
     }
+    let masks = stretch.masks;
     Register {
-        position: first as usize + k,
+        position: stretch.first as usize + k,
         masks,
     }
+}
+
+// The k-th register of a fan table, settings first, and none behind the last.
+pub fn register_at(ground: Ground, k: usize) -> Register
+    ensures { λ r. ⌜ StandsAt ground k r ⌝ }
+{
+    let settings = ground.settings;
+    let before = settings.count as usize;
+    if k < before {
+        return in_a_row(settings, k);
+    }
+    let last = ground.last;
+    let through = before + last.count as usize;
+    if k < through {
+        return in_a_row(last, k - before);
+    }
+    in_a_row(ground.speeds, k - through)
 }

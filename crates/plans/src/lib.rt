@@ -85,7 +85,8 @@ pub fn asked_of_image(chip: u8, table: u8, image: &[u8], t: u8) -> Asked
                 if image.len() != sizes.image {
                     return Asked::Refused(Refusal::NotAnImage);
                 }
-                let body = tables::held(known, table, image);
+                let ground = cards::ground_of(known, table);
+                let body = tables::held(ground, image);
                 let shape = layout.shape;
                 let plan = bodies::plan_of(shape, false, chip, table, body);
                 Asked::Speed(curves::speed_of(shape, plan, t))

@@ -2,13 +2,12 @@
 use bodies::LONGEST;
 use curves::Plan;
 use pages::Chip;
+use pages::Ground;
 use pages::Layout;
 use pages::Register;
 ghost use Prim.Native.Nat.{_+_, _-_, _≤_};
 ghost use mathlib.Core.Path.{_≡_};
-ghost use Rattle.pages.specs.Rows.{column};
-ghost use Rattle.pages.specs.Sheets.{registerIn};
-ghost use Rattle.pages.specs.Cards.{sheetOf};
+ghost use Rattle.pages.specs.Rows.{column, standsAt};
 ghost use Rattle.plans.specs.Parts.{worthAt, fitFrom, fittingOf};
 
 // A register's writable bits in the image, and 0 behind the image's end.
@@ -25,23 +24,23 @@ fn worth(image: &[u8], register: Register) -> u8
 }
 
 // Register by register, in the order of the table.
-pub(crate) fn held(chip: Chip, table: u8, image: &[u8]) -> [u8; LONGEST]
-    ensures { λ r. ⌜ r ≡ column 14 (λ k. worthAt (registerIn (sheetOf chip) table k) (now (image .entry))) ⌝ }
+pub(crate) fn held(ground: Ground, image: &[u8]) -> [u8; LONGEST]
+    ensures { λ r. ⌜ r ≡ column 14 (λ k. worthAt (standsAt ground k) (now (image .entry))) ⌝ }
 {
     let mut bytes = [0u8; LONGEST];
     for k in 0..LONGEST {
-        bytes[k] = worth(image, cards::register_of(chip, table, k));
+        bytes[k] = worth(image, pages::register_at(ground, k));
     }
     bytes
 }
 
 // Whether the registers of a table, from one place up to another, can hold a body's bytes.
-fn each_fits(chip: Chip, table: u8, body: [u8; LONGEST], from: usize, to: usize) -> bool
+fn each_fits(ground: Ground, body: [u8; LONGEST], from: usize, to: usize) -> bool
     requires { ⌜ to ≤ 14 ⌝ }
-    ensures { λ r. ⌜ r ≡ fitFrom (registerIn (sheetOf chip) table) body from (to - from) ⌝ }
+    ensures { λ r. ⌜ r ≡ fitFrom (standsAt ground) body from (to - from) ⌝ }
 {
     for k in from..to {
-        let register = cards::register_of(chip, table, k);
+        let register = pages::register_at(ground, k);
         let masks = register.masks;
         let byte = body[k];
         if byte & masks.writable != byte {
@@ -70,10 +69,10 @@ pub(crate) fn fit(chip: Chip, plan: Plan, layout: Layout) -> Fitting
     }
     let shape = layout.shape;
     let body = bodies::body_of(shape, false, plan);
-    let table = plan.table;
+    let ground = cards::ground_of(chip, plan.table);
     let settings = layout.settings;
     Fitting {
-        settings: each_fits(chip, table, body, 0, settings),
-        speeds: each_fits(chip, table, body, settings, settings + layout.speeds),
+        settings: each_fits(ground, body, 0, settings),
+        speeds: each_fits(ground, body, settings, settings + layout.speeds),
     }
 }

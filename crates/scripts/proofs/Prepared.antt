@@ -1,6 +1,6 @@
 -- What is made of a load is the plan's script: first every speed register with the full byte, then every register with the bytes of the plan's body.
 -- Assumes nothing.
-use Prim.Native.Nat.{ℕ, zero, suc, _+_, _-_, _/_, _≤_, _<_}
+use Prim.Native.Nat.{ℕ, zero, suc, _+_, _-_, _/_, _^_, _≤_, _<_}
 use native.Mathlib.Nat.{not-suc-le-zero}
 use native.Mathlib.Omega.{arith}
 use mathlib.Core.Path.{_≡_, refl, sym, ap, ap₂, subst, _∙_}
@@ -14,14 +14,14 @@ use Rattle.pages.specs.declared.Chip.{Chip}
 use Rattle.pages.specs.declared.Masks.{Masks}
 use Rattle.pages.specs.declared.Register.{Register}
 use Rattle.pages.specs.Banks.{noBank, ready, selectsFrom}
-use Rattle.pages.specs.Rows.{every, Table, masksIn, positions, rowIn}
-use Rattle.pages.specs.Sheets.{missing, loaded, selectorIn}
+use Rattle.pages.specs.Rows.{every, Table, masksIn, positions, rowIn, standsAt}
+use Rattle.pages.specs.Sheets.{missing, loaded, selectorIn, registerIn}
 use Rattle.pages.specs.Cards.{sheetOf, cardOf, banksOf, rowOf, hasTable, tableOf, shapeOf}
 use Rattle.pages.proofs.Every.{both, every-append}
 use Rattle.pages.proofs.Columns.{column-length, column-at}
 use Rattle.pages.proofs.Selectors.{selector-bits, selector-register, selects-most}
 use Rattle.pages.proofs.Sound.{stands}
-use Rattle.pages.proofs.Tables.{table-short, table-none, table-stands, register-position, register-at}
+use Rattle.pages.proofs.Tables.{table-short, table-none, table-stands, table-ground, register-position, register-at, register-bank}
 use Rattle.images.specs.Bytes.{storedAt, placed}
 use Rattle.curves.specs.declared.Plan.{Plan}
 use Rattle.curves.specs.Orders.{fulls}
@@ -86,6 +86,13 @@ module _ (chip : Chip) (plan : Plan) where
   registers-short : s + v ≤ 14
   registers-short = omega (arith, table-short chip (plan .table), length-append (table .settings) (table .speeds))
 
+  -- a register of the load is that of the table
+  loaded-at : (k : ℕ) → standsAt (load .ground) k ≡ registerIn (sheetOf chip) (plan .table) k
+  loaded-at k = ap (λ (at : ℕ → Register). at k) (table-ground chip (plan .table))
+
+  loaded-position : (k : ℕ) → standsAt (load .ground) k .position ≡ getD (positions table) k 0
+  loaded-position k = ap (λ (r : Register). r .position) (loaded-at k) ∙ register-position chip (plan .table) k
+
   -- of a table that the plan fills
   module _ (es : s ≡ length (curve .settings)) (ev : v ≡ length (curve .speeds)) where
     at-place : (k : ℕ) → k < v + (s + v) → (registerOf load k .position, byteAt load bytes k) ≡ getD pairs k nothing
@@ -95,7 +102,7 @@ module _ (chip : Chip) (plan : Plan) where
         by-side : (raised : Bool) → ltb k v ≡ raised → (registerOf load k .position, byteAt load bytes k) ≡ getD pairs k nothing
         by-side true t =
             rw t
-            (ap (λ (p : ℕ). (p, fullOf (shapeOf chip (plan .table)))) (register-position chip (plan .table) (s + k))
+            (ap (λ (p : ℕ). (p, fullOf (shapeOf chip (plan .table)))) (loaded-position (s + k))
             ∙ sym (raised-at (fullOf (shapeOf chip (plan .table))) table curve es ev k (ltb-true k v t)))
         by-side false t =
             let past : v ≤ k = ltb-false k v t in
@@ -104,7 +111,7 @@ module _ (chip : Chip) (plan : Plan) where
             let short = registers-short in
             let byte = column-at 14 (λ n. getD (body curve) n 0) (k - v) (omega arith) in
             rw t
-            (ap₂ (λ (p b : ℕ). (p, b)) (register-position chip (plan .table) (k - v)) byte
+            (ap₂ (λ (p b : ℕ). (p, b)) (loaded-position (k - v)) byte
             ∙ sym (body-at (fullOf (shapeOf chip (plan .table))) table curve es ev (k - v) j)
             ∙ ap (λ (n : ℕ). getD pairs n nothing) whole)
 
@@ -167,6 +174,7 @@ module _ (chip : Chip) (plan : Plan) where
             length-append (table .settings) (table .speeds),
           );
           turns = walk-turns load bytes (banksOf chip) (placements chip plan) places;
+          banks = λ k. subst (λ (r : Register). r .position / 256 < 2 ^ 8) (sym (loaded-at (placeAt load k))) (register-bank chip (plan .table) (placeAt load k));
         }
 
     pub load-writes : writesOf load ≡ length (scriptOf chip plan)
@@ -204,7 +212,7 @@ module _ (chip : Chip) (plan : Plan) where
 
         by-ready : (r : Bool) → readyAt load (cursorAt load n) ≡ r → register r .masks ≡ masksIn (rowIn (cardOf chip) (register r .position))
         by-ready true t =
-            let at = register-at chip (plan .table) (placeAt load k) (inside k (load-short .turns n h)) in
+            let at = loaded-at (placeAt load k) ∙ register-at chip (plan .table) (placeAt load k) (inside k (load-short .turns n h)) in
             ap (λ (r : Register). r .masks) at ∙ sym (ap (λ (r : Register). masksIn (rowIn (cardOf chip) (r .position))) at)
         by-ready false t =
             let at = selector-register (sheetOf chip) (banked (eqb (banksOf chip .bits) 0) refl (sym (ap (λ (bits : ℕ). ready bits (cursorAt load n .bank) (registerOf load k .position)) (selector-bits (sheetOf chip))) ∙ t)) in

@@ -1,6 +1,6 @@
 -- The contracts of the parts of `scripts`: how a plan's body, in register order behind the raised speeds, makes its writes.
 -- Assumes nothing.
-use Prim.Native.Nat.{ℕ, zero, suc, _+_, _-_, _*_, _/_, _≤_, _<_}
+use Prim.Native.Nat.{ℕ, zero, suc, _+_, _-_, _*_, _/_, _^_, _≤_, _<_}
 use mathlib.Core.Path.{_≡_}
 use mathlib.Core.Bool.{Bool, cond}
 use mathlib.Core.List.{List, [], _∷_, _++_, map}
@@ -12,9 +12,9 @@ use Rattle.refusal.specs.Checks.{told, left, roomChecks}
 use Rattle.pages.specs.declared.Chip.{Chip}
 use Rattle.pages.specs.declared.Register.{Register}
 use Rattle.pages.specs.Banks.{noBank, ready}
-use Rattle.pages.specs.Rows.{column}
-use Rattle.pages.specs.Sheets.{registerIn, selectorIn}
-use Rattle.pages.specs.Cards.{sheetOf, tableOf, shapeOf, layoutOf}
+use Rattle.pages.specs.Rows.{column, standsAt}
+use Rattle.pages.specs.Sheets.{selectorIn}
+use Rattle.pages.specs.Cards.{sheetOf, tableOf, shapeOf, layoutOf, groundOf}
 use Rattle.images.specs.Bytes.{storedAt}
 use Rattle.curves.specs.declared.Plan.{Plan}
 use Rattle.curves.specs.Planned.{fullOf}
@@ -41,7 +41,7 @@ unfoldable pub byteAt : Load → List ℕ → ℕ → ℕ
 byteAt l bytes k = cond (ltb k (l .speeds)) (l .full) (getD bytes (k - l .speeds) 0)
 
 abbrev pub registerOf : Load → ℕ → Register
-registerOf l k = registerIn (sheetOf (l .chip)) (l .table) (placeAt l k)
+registerOf l k = standsAt (l .ground) (placeAt l k)
 
 abbrev pub bankOf : Load → ℕ → ℕ
 bankOf l k = registerOf l k .position / 256
@@ -81,18 +81,18 @@ madeOf l bytes (suc n) image =
     let write = writeAt l bytes n in
     storedAt (write .register .masks) (write .register .position) (write .byte) (madeOf l bytes n image)
 
--- no more registers than the longest body has bytes, and as many selects as come between them
+-- no more registers than the longest body has bytes, and as many selects as come between them, each of a bank whose number is a byte
 pub record Short (l : Load) : Type 0 where
   pub registers : l .settings + l .speeds ≤ 14
   pub selects : l .selects ≤ 28
   pub turns : (n : ℕ) → n < writesOf l → cursorAt l n .next < registersOf l
+  pub banks : (k : ℕ) → bankOf l k < 2 ^ 8
 
 -- a plan's table of a chip ..
 abbrev pub loadOf : Chip → Plan → Load
 loadOf chip plan =
     record {
-      chip = chip;
-      table = plan .table;
+      ground = groundOf chip (plan .table);
       settings = length (tableOf chip (plan .table) .settings);
       speeds = length (tableOf chip (plan .table) .speeds);
       full = fullOf (shapeOf chip (plan .table));

@@ -3,6 +3,7 @@
 use bodies::LONGEST;
 use curves::Plan;
 use pages::Chip;
+use pages::Ground;
 use pages::Register;
 use pages::Selector;
 ghost use Prim.Native.Nat.{_<_};
@@ -12,10 +13,9 @@ ghost use lib.Dec.{eqb};
 ghost use lib.ListN.{length};
 ghost use Rattle.scripts.specs.Making.{Short, registersOf, writesOf, placeAt, byteAt, stepped, writeFrom, loadOf, loadedBytes};
 
-// A fan table that is loaded: its chip and number, how many settings and speeds it has, the full byte, and the selects.
+// A fan table that is loaded: where it stands, how many settings and speeds it has, the full byte, and the selects.
 pub struct Load {
-    pub chip: Chip,
-    pub table: u8,
+    pub ground: Ground,
     pub settings: usize,
     pub speeds: usize,
     pub full: u8,
@@ -84,9 +84,8 @@ impl Load {
         requires { ⌜ cursor .next < registersOf self ⌝ }
         ensures { λ r. ⌜ (r .write ≡ writeFrom self (now (body .entry)) cursor) × (r .cursor ≡ stepped self cursor) ⌝ }
     {
-        let chip = self.chip;
         let next = cursor.next;
-        let register = cards::register_of(chip, self.table, self.place(next));
+        let register = pages::register_at(self.ground, self.place(next));
         let bank = register.position / 256;
         let selector = self.selector;
         if is_ready(selector.bits, cursor.bank, bank) {
@@ -129,8 +128,7 @@ pub(crate) fn load_of(chip: Chip, plan: Plan) -> Load
     let layout = cards::layout_of(chip, plan.table);
     let shape = layout.shape;
     Load {
-        chip,
-        table: plan.table,
+        ground: cards::ground_of(chip, plan.table),
         settings: layout.settings,
         speeds: layout.speeds,
         full: curves::full_of(shape),

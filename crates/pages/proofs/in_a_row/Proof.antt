@@ -1,4 +1,4 @@
--- `pages::in_a_row` meets its contract: the k-th of some registers in a row is k behind the first, and behind the last there is none.
+-- `pages::in_a_row` meets its contract: the k-th register of a stretch is k behind the first, and behind the last there is none.
 -- Assumes nothing.
 use native.Mathlib.Omega.{arith}
 use mathlib.Core.List.{map}
@@ -13,23 +13,19 @@ use Rattle.pages.proofs.in_a_row.Tie as tie
 
 returns : tie.Need-returns
 returns c =
-    let a = c .before .args in
-    let row = from (a .first) (a .count) in
-    record {
-      answer =
-          sym (List·getD-eq-default (map (withMasks (a .masks)) row) noRegister
-          (omega (arith, length-map row (withMasks (a .masks)), run-length (λ n. n) (a .first) (a .count), c .if1 .taken)));
-    }
+    let r = c .before .before .args .stretch in
+    let row = from (r .first) (r .count) in
+    sym (List·getD-eq-default (map (withMasks (r .masks)) row) noRegister
+    (omega (arith, length-map row (withMasks (r .masks)), run-length (λ n. n) (r .first) (r .count), c .if1 .taken)))
 
 returns-2 : tie.Need-returns-2
 returns-2 c =
-    let a = c .before .args in
-    let row = from (a .first) (a .count) in
-    record {
-      answer =
-          sym (map-at (withMasks (a .masks)) row 0 noRegister (a .k) (omega (arith, run-length (λ n. n) (a .first) (a .count), c .if1 .left))
-          ∙ ap (withMasks (a .masks)) (run-at (λ n. n) (a .first) (a .count) (a .k) (c .if1 .left)));
-    }
+    let else = c .before .before in
+    let r = else .before .before .args .stretch in
+    let k = else .before .before .args .k in
+    let row = from (r .first) (r .count) in
+    sym (map-at (withMasks (r .masks)) row 0 noRegister k (omega (arith, run-length (λ n. n) (r .first) (r .count), else .if1 .left))
+    ∙ ap (withMasks (r .masks)) (run-at (λ n. n) (r .first) (r .count) k (else .if1 .left)))
 
 pub in-a-row-spec : {M : Type 1} → statement M
-in-a-row-spec = tie.close (tie.spec returns (λ c. search needs) returns-2)
+in-a-row-spec = tie.close (tie.spec (λ c. search needs) returns (λ c. search needs) (λ c. search needs) returns-2)

@@ -5,10 +5,12 @@ use mathlib.Core.Path.{_≡_, sym, ap, _∙_}
 use mathlib.Core.Bool.{false}
 use borrow.Author.Tests.{eq-eqb, ne-eqb}
 use Rattle.pages.specs.declared.Layout.{Layout}
+use Rattle.pages.specs.declared.Register.{Register}
 use Rattle.pages.specs.declared.Sizes.{Sizes}
-use Rattle.pages.specs.Rows.{column}
+use Rattle.pages.specs.Rows.{column, standsAt}
 use Rattle.pages.specs.Sheets.{registerIn}
 use Rattle.pages.specs.Cards.{sheetOf}
+use Rattle.pages.proofs.Tables.{table-ground}
 use Rattle.cards.proofs.Told.{table-found, table-missed}
 use Rattle.curves.specs.declared.Plan.{Plan}
 use Rattle.curves.specs.Planned.{planned, asks}
@@ -51,6 +53,9 @@ returns c =
     let long = ap (λ (z : Sizes). z .image) (s .sizes-of .ensures .answer) in
     record { answer = rw (e, found .0, ne-eqb _ _ (λ q. c .if1 .taken (q ∙ sym long))) }
 
+ground-of-requires : tie.Need-ground-of-requires
+ground-of-requires c κs = search needs
+
 held-requires : tie.Need-held-requires
 held-requires c κs = search needs
 
@@ -73,7 +78,8 @@ returns-3 c =
 returns-4 : tie.Need-returns-4
 returns-4 c =
     let h = c .before .before in
-    let s = h .before .before .before in
+    let p = h .before in
+    let s = p .before .before .before in
     let l = s .before .before in
     let f = l .before .before in
     let n = f .before .before in
@@ -84,10 +90,12 @@ returns-4 c =
     let long = ap (λ (z : Sizes). z .image) (s .sizes-of .ensures .answer) in
     let shape = l .layout .given .0 .0 .shape in
     let bytes = column 14 (λ k. worthAt (registerIn (sheetOf known) (a .table) k) (a .image .now)) in
+    let there = ap standsAt (p .ground-of .ensures .answer) ∙ table-ground known (a .table) in
+    let held = h .held .ensures ∙ ap (λ (at : ℕ → Register). column 14 (λ k. worthAt (at k) (a .image .now))) there in
     let plan : c .before .plan-of .result ≡ decoded false shape (a .chip) (a .table) bytes =
-    c .before .plan-of .ensures .answer ∙ ap (decoded false shape (a .chip) (a .table)) (h .held .ensures) in
+    c .before .plan-of .ensures .answer ∙ ap (decoded false shape (a .chip) (a .table)) held in
     record {
-      answer = rw (e, found .0, eq-eqb _ _ (h .before .if1 .left ∙ long))
+      answer = rw (e, found .0, eq-eqb _ _ (p .before .if1 .left ∙ long))
           (ap (λ (speed : ℕ). (0, speed))
           (c .speed-of .ensures .answer
           ∙ ap (λ (p : Plan). asks shape (planned shape p) (a .t)) plan
@@ -107,6 +115,7 @@ asked-of-image-spec =
     enum-known-layout
     sizes-of-requires
     returns
+    ground-of-requires
     held-requires
     plan-of-requires
     speed-of-requires

@@ -11,19 +11,18 @@ use lib.Bits.{bitAnd}
 use lib.Dec.{eqb}
 use lib.ListN.{getD}
 use Rattle.pages.specs.declared.Register.{Register}
-use Rattle.pages.specs.Sheets.{registerIn}
-use Rattle.pages.specs.Cards.{sheetOf}
+use Rattle.pages.specs.Rows.{standsAt}
 use Rattle.plans.specs.Parts.{fitFrom}
 use borrow.Author.Needs.{needs}
 use Rattle.plans.proofs.tables.each_fits.Statement.{statement}
 use Rattle.plans.proofs.tables.each_fits.Tie as tie
 
 abbrev Inv-loop : tie.InvT-loop
-Inv-loop chip table from to body k₀ k =
-    fitFrom (registerIn (sheetOf chip) table) body from (to - from) ≡ fitFrom (registerIn (sheetOf chip) table) body k (to - k)
+Inv-loop ground from to body k₀ k =
+    fitFrom (standsAt ground) body from (to - from) ≡ fitFrom (standsAt ground) body k (to - k)
 
 abbrev μ-loop : tie.MeasureT-loop
-μ-loop chip table from to body k₀ k = to - k
+μ-loop ground from to body k₀ k = to - k
 
 -- the place ahead, and those behind it
 ahead : (register : ℕ → Register) (body : List ℕ) (k to : ℕ) → k < to
@@ -52,8 +51,8 @@ fit register body k to mask h m e =
 loop-holds : tie.Need-loop-holds Inv-loop μ-loop
 loop-holds c = refl
 
-register-of-requires : tie.Need-register-of-requires Inv-loop μ-loop
-register-of-requires c κs = search needs
+register-at-requires : tie.Need-register-at-requires Inv-loop μ-loop
+register-at-requires c κs = search needs
 
 array-read-byte : tie.Need-array-read-byte Inv-loop μ-loop
 array-read-byte c =
@@ -63,7 +62,7 @@ returns : tie.Need-returns Inv-loop μ-loop
 returns c =
     let asked = c .before .before .before in
     let turn = asked .before in
-    let mask = ap (λ (r : Register). r .masks .writable) (asked .register-of .ensures .answer) in
+    let mask = ap (λ (r : Register). r .masks .writable) (asked .register-at .ensures .answer) in
     sym (turn .before .loop .inv ∙ misfit _ _ _ _ _ (turn .loop-test .taken) mask (c .if1 .taken))
 
 add-k : tie.Need-add-k Inv-loop μ-loop
@@ -76,7 +75,7 @@ loop-again : tie.Need-loop-again Inv-loop μ-loop
 loop-again c =
     let asked = c .before .before .before in
     let turn = asked .before in
-    let mask = ap (λ (r : Register). r .masks .writable) (asked .register-of .ensures .answer) in
+    let mask = ap (λ (r : Register). r .masks .writable) (asked .register-at .ensures .answer) in
     rw (add-one (turn .before .loop .k))
     (turn .before .loop .inv ∙ fit _ _ _ _ _ (turn .loop-test .taken) mask (c .if1 .left))
 
@@ -93,7 +92,7 @@ each-fits-spec =
     Inv-loop
     μ-loop
     loop-holds
-    register-of-requires
+    register-at-requires
     array-read-byte
     returns
     add-k

@@ -3,9 +3,7 @@
 use Prim.Native.Nat.{_-_}
 use mathlib.Core.Path.{refl, ap, _∙_}
 use Rattle.pages.specs.declared.Register.{Register}
-use Rattle.pages.specs.Rows.{column}
-use Rattle.pages.specs.Sheets.{registerIn}
-use Rattle.pages.specs.Cards.{sheetOf}
+use Rattle.pages.specs.Rows.{column, standsAt}
 use Rattle.pages.proofs.Columns.{column-length, column-at}
 use Rattle.plans.specs.Parts.{worthAt}
 use Rattle.images.proofs.Filling.{Filled, filled-none, filled-more, filled-all}
@@ -14,16 +12,16 @@ use Rattle.plans.proofs.tables.held.Statement.{statement}
 use Rattle.plans.proofs.tables.held.Tie as tie
 
 abbrev Inv-loop : tie.InvT-loop
-Inv-loop chip table image bytes₀ k₀ bytes k = Filled (λ j. worthAt (registerIn (sheetOf chip) table j) image) 14 bytes k
+Inv-loop ground image bytes₀ k₀ bytes k = Filled (λ j. worthAt (standsAt ground j) image) 14 bytes k
 
 abbrev μ-loop : tie.MeasureT-loop
-μ-loop chip table image bytes₀ k₀ bytes k = 14 - k
+μ-loop ground image bytes₀ k₀ bytes k = 14 - k
 
 loop-holds : tie.Need-loop-holds Inv-loop μ-loop
 loop-holds c = filled-none _ _ _ refl
 
-register-of-requires : tie.Need-register-of-requires Inv-loop μ-loop
-register-of-requires c κs = search needs
+register-at-requires : tie.Need-register-at-requires Inv-loop μ-loop
+register-at-requires c κs = search needs
 
 worth-requires : tie.Need-worth-requires Inv-loop μ-loop
 worth-requires c κs = search needs
@@ -41,12 +39,12 @@ loop-again : tie.Need-loop-again Inv-loop μ-loop
 loop-again c =
     let a = c .before .before .before .before .before .args in
     filled-more _ (c .before .before .before .loop .inv) (c .before .before .loop-test .taken)
-    (c .worth .ensures ∙ ap (λ (r : Register). worthAt r (a .image .now)) (c .before .register-of .ensures .answer))
+    (c .worth .ensures ∙ ap (λ (r : Register). worthAt r (a .image .now)) (c .before .register-at .ensures .answer))
 
 returns : tie.Need-returns Inv-loop μ-loop
 returns c =
     let a = c .before .before .before .args in
-    filled-all (c .before .loop .inv) (c .loop-test .left) (column 14 (λ k. worthAt (registerIn (sheetOf (a .chip)) (a .table) k) (a .image .now)))
+    filled-all (c .before .loop .inv) (c .loop-test .left) (column 14 (λ k. worthAt (standsAt (a .ground) k) (a .image .now)))
     (column-length 14 _) (column-at 14 _)
 
 pub held-spec : {M : Type 1} → statement M
@@ -56,7 +54,7 @@ held-spec =
     Inv-loop
     μ-loop
     loop-holds
-    register-of-requires
+    register-at-requires
     worth-requires
     array-write-bytes
     add-k

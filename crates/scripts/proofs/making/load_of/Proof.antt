@@ -13,19 +13,21 @@ layout-of-requires c κs = search needs
 full-of-requires : tie.Need-full-of-requires
 full-of-requires c κs = search needs
 
+ground-of-requires : tie.Need-ground-of-requires
+ground-of-requires c κs = search needs
+
 selector-of-requires : tie.Need-selector-of-requires
 selector-of-requires c κs = search needs
 
 returns : tie.Need-returns
 returns c =
     let full = c .before .full-of .ensures .answer in
-    let told = c .before .before .layout-of .ensures .answer in
-    let a = c .before .before .before .args in
+    let told = c .before .before .before .layout-of .ensures .answer in
+    let ground = c .before .before .ground-of .ensures .answer in
     let selector = c .selector-of .ensures .answer in
     let fullest = full ∙ ap (λ (l : Layout). fullOf (l .shape)) told in
     λ i. record {
-      chip = a .chip;
-      table = a .plan .table;
+      ground = ground i;
       settings = told i .settings;
       speeds = told i .speeds;
       full = fullest i;
@@ -34,4 +36,4 @@ returns c =
     }
 
 pub load-of-spec : {M : Type 1} → statement M
-load-of-spec = tie.close (tie.spec layout-of-requires full-of-requires selector-of-requires returns)
+load-of-spec = tie.close (tie.spec layout-of-requires ground-of-requires full-of-requires selector-of-requires returns)
