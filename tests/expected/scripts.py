@@ -1,4 +1,4 @@
-"""Scripts, and plays that stop at each number of writes."""
+"""Scripts, plays that stop at each number of writes, and scripts that are played again after a stop."""
 from cards import SELECT, SIZES, confirmed, reset, write
 from images import changes
 from plans import (
@@ -102,16 +102,20 @@ def never_slower(plan, old, stop, planned):
     return int(stop) >= min(int(old), int(planned))
 
 
-def stop(plan, old, count):
-    new = list(old)
-    answer = play(plan, new, count)
-    changed = sum(a != b for a, b in zip(old, new))
-    cells = []
+def compared(plan, old, new):
+    """How many bytes differ, and for five temperatures the speeds that two images and the plan ask."""
+    cells = ["changed %d" % sum(a != b for a, b in zip(old, new))]
     for t in TEMPERATURES[plan.chip]:
         before, now = (asked_of_image(plan.chip, plan.table, image, t) for image in (old, new))
         assert before == now == "refused 8" or never_slower(plan, before, now, asked(plan, t))
-        cells.append(", %d %s %s %s" % (t, before, now, asked(plan, t)))
-    print("stop chip %d table %d count %d %s changed %d%s" % (plan.chip, plan.table, count, answer, changed, "".join(cells)))
+        cells.append("%d %s %s %s" % (t, before, now, asked(plan, t)))
+    return ", ".join(cells)
+
+
+def stop(plan, old, count):
+    new = list(old)
+    answer = play(plan, new, count)
+    print("stop chip %d table %d count %d %s %s" % (plan.chip, plan.table, count, answer, compared(plan, old, new)))
 
 
 SLOPE = Plan(1, 1, (40, 44, 48, 52, 65, 150, 210, 220, 250))
@@ -136,14 +140,27 @@ def too_early(plan, old):
     return int(speed(plan.chip, early, 38)) < min(int(asked_of_image(plan.chip, plan.table, old, 38)), int(asked(plan, 38)))
 
 
+def earlier():
+    """An image of chip 2 with another plan loaded."""
+    image = reset(2)
+    assert play(EARLIER, image, 24) == "writes 24"
+    return image
+
+
+def unordered():
+    """An unordered curve of table 7, where code 6 is selected and bit 5 of the select register is set."""
+    image = reset(4)
+    image[SELECT] = 0x2E
+    for at, byte in UNORDERED.items():
+        image[at] = byte
+    return image
+
+
 def banked_demand_3():
-    """Of chip 4: from its power-on image; from an unordered curve, where code 6 is selected and bit 5 of the select register is set; refusals."""
+    """Of chip 4: from its power-on image; from an unordered curve; refusals."""
     assert too_early(SLOPE_4, reset(4))
     stops(SLOPE_4, reset(4))
-    old = reset(4)
-    old[SELECT] = 0x2E
-    for at, byte in UNORDERED.items():
-        old[at] = byte
+    old = unordered()
     stops(OTHER_4, old)
     stop(SLOPE_4, reset(1), 14)
     stop(SLOPE, reset(4), 13)
@@ -163,15 +180,29 @@ def plays():
         print("played chip 4 table %d select %02X %s changed%s" % (n, n % 8, answer, changes(old, new)))
 
 
+def restarts(plan, image, counts):
+    """A script "cut anywhere, any number of times, and then started afresh": compared with the very first curve, and at the end the plan's."""
+    first = list(image)
+    for k, count in enumerate(counts):
+        answer = play(plan, image, count)
+        print("restart chip %d table %d play %d count %d %s %s" % (plan.chip, plan.table, k, count, answer, compared(plan, first, image)))
+    assert count >= len(script(plan)) and all(asked_of_image(plan.chip, plan.table, image, t) == asked(plan, t) for t in TEMPERATURES[plan.chip])
+
+
+def restarted():
+    """Cut while speeds are raised, while settings move and while speeds settle; before the first write; and at last not at all."""
+    restarts(SLOPE, reset(1), (6, 0, 11, 2, 13))
+    restarts(STEPS, earlier(), (12, 0, 19, 3, 24))
+    restarts(OTHER_4, unordered(), (7, 0, 12, 1, 99))
+
+
 def demand_3():
     """Temperatures first, or the low byte of a count first, would be slower than both: the plans are chosen to show it."""
     assert too_early(SLOPE, reset(1))
     stops(SLOPE, reset(1))
     stops(STEPS, reset(2))
-    loaded = reset(2)
-    assert play(EARLIER, loaded, 24) == "writes 24"
-    assert (asked_of_image(2, 1, loaded, 60), asked(STEPS, 60)) == ("0200", "01FF")
-    stops(STEPS, loaded)
+    assert (asked_of_image(2, 1, earlier(), 60), asked(STEPS, 60)) == ("0200", "01FF")
+    stops(STEPS, earlier())
     stop(SLOPE, reset(2), 13)
     stop(STEPS, reset(1), 24)
     other = reset(1)
@@ -179,6 +210,7 @@ def demand_3():
     stop(SLOPE, other, 13)
     banked_demand_3()
     plays()
+    restarted()
 
 
 def scripts():

@@ -13,6 +13,7 @@ mod library;
 mod model;
 mod random;
 mod readings;
+mod restarts;
 mod rounds;
 mod subject;
 mod tests;

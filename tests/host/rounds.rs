@@ -165,26 +165,34 @@ pub fn plays<S: Subject>(d: &mut Driver<S>, r: &mut Random, rounds: usize) {
     }
 }
 
-/// Whether no image on the way is slower, at any T, than the slower of old and plan: "More duty
-/// is faster; a smaller count is faster."
+/// What is asked at every T, as the driver answers it.
+type Asked = [(u32, u16)];
+
+/// Whether `now` is at no T slower than the slower of `before` and `planned`: "More duty is faster; a
+/// smaller count is faster."
+pub fn nowhere_slower(chip: u8, now: &Asked, before: &Asked, planned: &Asked) -> bool {
+    let duties = chip_of(chip).unwrap().curve == Curve::Slope;
+    (0..256).all(|t| match duties {
+        true => now[t].1 >= before[t].1.min(planned[t].1),
+        false => now[t].1 <= before[t].1.max(planned[t].1),
+    })
+}
+
+/// Whether no image on the way is slower, at any T, than the slower of old and plan.
 pub fn never_slower<S: Subject>(d: &mut Driver<S>, plan: Plan, old: &[u8], script: &[u8]) -> bool {
     let planned = d.asked_of_plan_at_all(plan);
     let before = d.asked_of_image_at_all(plan.chip, plan.table, old);
-    let duties = chip_of(plan.chip).unwrap().curve == Curve::Slope;
     let mut image = old.to_vec();
     script.chunks(2).all(|pair| {
         d.write(plan.chip, &mut image, pair[0], pair[1]);
         let now = d.asked_of_image_at_all(plan.chip, plan.table, &image);
-        (0..256).all(|t| match duties {
-            true => now[t].1 >= before[t].1.min(planned[t].1),
-            false => now[t].1 <= before[t].1.max(planned[t].1),
-        })
+        nowhere_slower(plan.chip, &now, &before, &planned)
     })
 }
 
 /// An old image that the plan's chip confirms. Its curve is that of power-on, of another good
 /// plan, or any bytes; chip 4's bank select register holds any byte.
-fn old<S: Subject>(d: &mut Driver<S>, r: &mut Random, plan: Plan, round: usize) -> Vec<u8> {
+pub fn old<S: Subject>(d: &mut Driver<S>, r: &mut Random, plan: Plan, round: usize) -> Vec<u8> {
     let mut image = match round % 4 {
         0 => power_on(d, plan.chip),
         _ => r.confirmed(plan.chip),

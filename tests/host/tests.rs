@@ -4,6 +4,7 @@
 use crate::driver::{hold, Driver, NAMES};
 use crate::model::{self, Plan, Watch, BODY, SCRIPT};
 use crate::random::{Draft, Random};
+use crate::restarts::restarts;
 use crate::rounds::{
     cut_bodies, cuts, damaged_records, images, plans, plays, records, runs, texts, watches,
 };
@@ -36,6 +37,7 @@ pub fn run<S: Subject>(d: &mut Driver<S>, seed: u64, rounds: usize) {
         cuts(d, r, 4, 250);
         texts(d, r, 150);
     }
+    restarts(d, r, 128 * rounds);
     for (name, calls) in NAMES.iter().zip(d.calls.iter()) {
         println!("{:16} {:9}", name, calls);
     }

@@ -67,6 +67,12 @@ fn speeds(plan: Plan, old: &[u8], new: &[u8]) {
     }
 }
 
+// How many bytes changed between two images, and the speeds that they ask beside the plan's.
+pub fn compared(plan: Plan, old: &[u8], new: &[u8]) {
+    figures_printing::labelled(b" changed ", changed(old, new));
+    speeds(plan, old, new);
+}
+
 // Played on a copy of the image.
 fn stop(plan: Plan, old: &[u8], new: &mut [u8], count: usize) {
     copy(old, new);
@@ -74,8 +80,7 @@ fn stop(plan: Plan, old: &[u8], new: &mut [u8], count: usize) {
     figures_samples::head(plan);
     figures_printing::labelled(b" count ", count as u64);
     script_lines::made(plays::play(plan, new, count));
-    figures_printing::labelled(b" changed ", changed(old, new));
-    speeds(plan, old, new);
+    compared(plan, old, new);
     figures_printing::line_end();
 }
 
@@ -87,15 +92,9 @@ fn stops(plan: Plan, old: &[u8], new: &mut [u8], counts: usize) {
     stop(plan, old, new, 0xFFFFFFFFFFFFFFFF);
 }
 
-fn power_on(chip: u8) -> [u8; 256] {
+pub fn power_on(chip: u8) -> [u8; 256] {
     let mut image = [0u8; 256];
     images::reset(chip, &mut image);
-    image
-}
-
-fn loaded(plan: Plan) -> [u8; 256] {
-    let mut image = power_on(plan.chip);
-    plays::play(plan, &mut image, 24);
     image
 }
 
@@ -110,7 +109,7 @@ fn stop_from(plan: Plan, old: [u8; 256], count: usize) {
 }
 
 // With the temperatures first, 38 degrees would ask 140, less than either curve: chip 1's and chip 4's registers hold the same at power-on.
-fn slope(chip: u8, table: u8, critical: u8) -> Plan {
+pub fn slope(chip: u8, table: u8, critical: u8) -> Plan {
     figures_samples::slope(
         chip,
         table,
@@ -120,23 +119,33 @@ fn slope(chip: u8, table: u8, critical: u8) -> Plan {
     )
 }
 
-// Of chips 1 and 2.
-fn one_bank() {
-    let slope = slope(1, 1, 65);
-    stops_from(slope, power_on(1), 15);
-    let steps = figures_samples::steps(
+pub fn stepped() -> Plan {
+    figures_samples::steps(
         1,
         [70, 55, 45, 20],
         [0x00FF, 0x01FF, 0x02FF, 0x0300, 0xFFFF],
-    );
-    stops_from(steps, power_on(2), 26);
-    // From 0200h to 01FFh: with the low byte first, 60 degrees would ask 02FFh.
-    let earlier = figures_samples::steps(
+    )
+}
+
+// Of chip 2, with another plan loaded. From 0200h to 01FFh: with the low byte first, 60 degrees would ask 02FFh.
+pub fn earlier() -> [u8; 256] {
+    let plan = figures_samples::steps(
         1,
         [60, 50, 40, 30],
         [0x0100, 0x0200, 0x0300, 0x0400, 0x0500],
     );
-    stops_from(steps, loaded(earlier), 26);
+    let mut image = power_on(2);
+    plays::play(plan, &mut image, 24);
+    image
+}
+
+// Of chips 1 and 2.
+fn one_bank() {
+    let slope = slope(1, 1, 65);
+    stops_from(slope, power_on(1), 15);
+    let steps = stepped();
+    stops_from(steps, power_on(2), 26);
+    stops_from(steps, earlier(), 26);
     // The image of another chip, and an image with one bit of its identity turned over: nothing is written.
     stop_from(slope, power_on(2), 13);
     stop_from(steps, power_on(1), 24);
@@ -153,7 +162,7 @@ fn power_on_banked(select: u8) -> [u8; 1280] {
 }
 
 // Table 7 in no order, while a bank is selected that the sheet lacks, and bit 5 of the select register is set.
-fn unordered() -> [u8; 1280] {
+pub fn unordered() -> [u8; 1280] {
     let mut image = power_on_banked(0x2E);
     image[0x412] = 85;
     image[0x440] = 30;

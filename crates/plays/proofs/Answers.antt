@@ -26,6 +26,13 @@ use Rattle.scripts.proofs.Bus.{bus-cut}
 use Rattle.scripts.proofs.Prepared.{placements-stand}
 use Rattle.plays.specs.Contracts.{startChecks, playChecks, Plays}
 
+-- an image that a chip confirms is as long as its images
+pub image-long : (number : ℕ) (chip : Chip) (image : List ℕ) → chipOf number ≡ Known chip → first (identityChecks number image) ≡ 0
+    → length image ≡ sizeOf chip
+image-long number chip image e confirmed =
+    eqb-true (length image) (sizeOf chip)
+    (not-false (eqb (length image) (sizeOf chip)) (rw e at (all-passed (identityChecks number image) refl confirmed .1 .0)))
+
 module _ (plan : Plan) (image : List ℕ) (count : ℕ) where
   abbrev writes : ℕ
   writes = min count (length (scriptFor plan))
@@ -52,9 +59,7 @@ module _ (plan : Plan) (image : List ℕ) (count : ℕ) where
   play-made {n} {new} chip named e c m =
       let none : first (playChecks plan image) ≡ 0 = same-checks e ∙ sym (c .answer) in
       let all : n ≡ writes = m .answer ∙ rw named in
-      let long : length image ≡ sizeOf chip =
-      eqb-true (length image) (sizeOf chip)
-      (not-false (eqb (length image) (sizeOf chip)) (rw named at (all-passed (identityChecks (plan .chip) image) refl (sym (c .answer)) .1 .0))) in
+      let long = image-long (plan .chip) chip image named (sym (c .answer)) in
       let landed = sym (bus-cut chip (placements chip plan) image (placements-stand chip plan) long count) in
       let bytes : new ≡ whenKnown (chipOf (plan .chip)) (λ c. played c (take count (scriptOf c plan)) image) image = m .bytes ∙ landed ∙ rw named in
       record {

@@ -5,4 +5,5 @@ pub mod Stops
 pub mod Answers
 pub mod NeverRefused
 pub mod NeverSlower
+pub mod Restarts
 pub mod Unique

@@ -2,6 +2,7 @@
 -- bus, which does at every stop what writes by position do.
 -- Assumes nothing.
 use Prim.Native.Nat.{ℕ, zero, suc, _≤_}
+use native.Mathlib.Omega.{arith}
 use mathlib.Core.Path.{_≡_, refl, sym, ap, ap₂, subst, _∙_}
 use mathlib.Core.Bool.{So}
 use mathlib.Core.List.{List, [], _∷_, _++_, map}
@@ -13,10 +14,12 @@ use Rattle.pages.specs.declared.Shape.the-variants.{Slope, Steps}
 use Rattle.pages.specs.Banks.{asideIn}
 use Rattle.pages.specs.Rows.{every, Table, masksIn, positions}
 use Rattle.pages.specs.Cards.{sheetOf, banksOf, rowOf, sizeOf, tableOf, shapeOf, worth}
+use Rattle.pages.specs.Identity.{confirmed}
 use Rattle.pages.proofs.Every.{both, every-append}
 use Rattle.pages.proofs.Sound.{stands}
 use Rattle.pages.proofs.Tables.{table-stands}
-use Rattle.images.specs.Bytes.{placed}
+use Rattle.images.specs.Bytes.{placed, written}
+use Rattle.images.proofs.Kept.{write-keeps-identity}
 use Rattle.images.proofs.Laws.{storedAt-other}
 use Rattle.curves.specs.declared.Plan.{Plan}
 use Rattle.curves.specs.Orders.{fulls}
@@ -24,10 +27,11 @@ use Rattle.curves.specs.Planned.{Curve, asks, fullOf, AsFast, slower}
 use Rattle.plans.specs.Plans.{held, plannedFor}
 use Rattle.plans.proofs.Laws.{Accepted}
 use Rattle.scripts.specs.Scripts.{Pair, writes, script, placements, scriptOf}
-use Rattle.scripts.specs.Played.{laid, played, stops, touched}
+use Rattle.scripts.specs.Played.{laid, played, stops, lastOf, touched}
 use Rattle.scripts.specs.Rules.{Outside, Rule}
 use Rattle.scripts.proofs.Bus.{beside, Same, same-refl, bus-plays, bus-stops, played-length}
 use Rattle.scripts.proofs.Memory.{Memory, puts, AllElsewhere, elsewhere-writes, elsewhere-append}
+use Rattle.scripts.proofs.Lengths.{script-some}
 use Rattle.scripts.proofs.Prepared.{placements-stand}
 use Rattle.scripts.proofs.Safe.{curveIn, asked, plays, never-slower, ends-planned}
 use Rattle.plays.proofs.Rules.{ruleOf}
@@ -66,6 +70,18 @@ stops-elsewhere chip q ws (k ∷ ks) image h =
 pub stops-length : (chip : Chip) (ws : List Pair) (cuts image : List ℕ) → length (stops (played chip) ws image cuts) ≡ length image
 stops-length chip ws [] image = refl
 stops-length chip ws (k ∷ ks) image = stops-length chip ws ks (played chip (take k ws) image) ∙ played-length chip (take k ws) image
+
+-- no writes change what identity sees
+pub played-keeps-identity : (chip : Chip) (ws : List Pair) (image : List ℕ) → confirmed chip (played chip ws image) ≡ confirmed chip image
+played-keeps-identity chip [] image = refl
+played-keeps-identity chip (w ∷ ws) image =
+    played-keeps-identity chip ws (written chip (w .0) (w .1) image) ∙ write-keeps-identity chip (w .0) (w .1) image
+
+-- a play more
+pub stops-more : (play : List Pair → List ℕ → List ℕ) (ws : List Pair) (cuts : List ℕ) (image : List ℕ) (count : ℕ)
+    → stops play ws image (cuts ++ (count ∷ [])) ≡ play (take count ws) (stops play ws image cuts)
+stops-more play ws [] image count = refl
+stops-more play ws (k ∷ ks) image count = stops-more play ws ks (play (take k ws) image) count
 
 -- a table holds the same in two images that agree but for what a select changes
 worth-same : (chip : Chip) (x y ps : List ℕ) → Same chip x y → So (every (stands (sheetOf chip)) ps) → map (worth chip x) ps ≡ map (worth chip y) ps
@@ -137,12 +153,23 @@ module _ (chip : Chip) (plan : Plan) (accepted : Accepted chip plan) (old : List
       let r = bus-stops chip (placements chip plan) (placements-stand chip plan) cuts old old long (same-refl chip old) in
       rw (held-same chip (plan .table) (r .1)) (asked-by-position (r .0) t)
 
-  pub held-at-last : (cuts : List ℕ) (count : ℕ) → length (scriptOf chip plan) ≤ count
-      → held chip (plan .table) (played chip (take count (scriptOf chip plan)) (stopped cuts)) ≡ curve
-  held-at-last cuts count h =
-      let here : length (stopped cuts) ≡ sizeOf chip = stops-length chip (scriptOf chip plan) cuts old ∙ long in
-      held-same chip (plan .table) (bus-plays chip (placements chip plan) (placements-stand chip plan) (stopped cuts) here count h)
-      ∙ ends-by-position (stopped cuts) here
+  -- a play that completes ends at the plan, whatever it began with
+  held-after : (image : List ℕ) → length image ≡ sizeOf chip → (count : ℕ) → length (scriptOf chip plan) ≤ count
+      → held chip (plan .table) (played chip (take count (scriptOf chip plan)) image) ≡ curve
+  held-after image l count h =
+      held-same chip (plan .table) (bus-plays chip (placements chip plan) (placements-stand chip plan) image l count h) ∙ ends-by-position image l
+
+  -- and so the last of some, if it does
+  last-holds : (cuts image : List ℕ) (n : ℕ) → length image ≡ sizeOf chip
+      → (length (scriptOf chip plan) ≤ n → held chip (plan .table) image ≡ curve)
+      → length (scriptOf chip plan) ≤ lastOf n cuts → held chip (plan .table) (stops (played chip) (scriptOf chip plan) image cuts) ≡ curve
+  last-holds [] image n l h e = h e
+  last-holds (k ∷ ks) image n l h e =
+      last-holds ks (played chip (take k (scriptOf chip plan)) image) k (played-length chip (take k (scriptOf chip plan)) image ∙ l) (held-after image l k) e
+
+  -- with no play none completes: a script is not empty
+  pub held-at-last : (cuts : List ℕ) → length (scriptOf chip plan) ≤ lastOf 0 cuts → held chip (plan .table) (stopped cuts) ≡ curve
+  held-at-last cuts = last-holds cuts old 0 long (λ none. absurd (omega (arith, none, script-some chip plan (accepted .has))))
 
   script-elsewhere : (q : ℕ) → Outside q (positions table) → AllElsewhere q (placements chip plan)
   unfolding placements

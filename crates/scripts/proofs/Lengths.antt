@@ -1,6 +1,7 @@
 -- A script has as many writes as the paper says: one for each speed, then one for each register.
 -- Assumes nothing.
 use Prim.Native.Nat.{ℕ, _+_, _≤_}
+use native.Mathlib.Nat.{not-suc-le-zero}
 use native.Mathlib.Omega.{arith}
 use mathlib.Core.Path.{_≡_, refl, sym, ap, _∙_}
 use mathlib.Core.Bool.{So}
@@ -13,19 +14,27 @@ use Rattle.refusal.proofs.Passed.{all-passed, when-passed}
 use Rattle.pages.specs.declared.Chip.{Chip}
 use Rattle.pages.specs.declared.Chip.the-variants.{Nct7802y, F75373s, Nct7904d}
 use Rattle.pages.specs.declared.Named.the-variants.{Known}
+use Rattle.pages.specs.declared.Shape.{Shape}
+use Rattle.pages.specs.declared.Shape.the-variants.{Slope, Steps}
 use Rattle.pages.specs.Banks.{noBank}
+use Rattle.pages.specs.Rows.{Table}
+use Rattle.pages.specs.Sheets.{room}
 use Rattle.pages.specs.Cards.{sheetOf, chipOf, banksOf, hasTable, tableOf, shapeOf, layoutOf}
 use Rattle.pages.proofs.Selectors.{selects-most}
-use Rattle.pages.proofs.Tables.{table-laid, table-short}
+use Rattle.pages.proofs.Tables.{table-laid, table-short, table-sized}
 use Rattle.curves.specs.declared.Plan.{Plan}
 use Rattle.curves.specs.Orders.{fulls}
-use Rattle.curves.specs.Planned.{fullOf}
+use Rattle.curves.specs.Planned.{Curve, fullOf}
 use Rattle.curves.specs.Values.{Sized}
 use Rattle.plans.specs.Plans.{plannedFor}
-use Rattle.scripts.specs.Scripts.{writes, placements, scriptOf, writesIn, scriptLength, scriptFor}
+use Rattle.scripts.specs.Scripts.{writes, script, placements, scriptOf, writesIn, scriptLength, scriptFor}
 use Rattle.scripts.specs.Contracts.{scriptChecks, Scripts}
 use Rattle.scripts.proofs.Bus.{bus-length}
 use Rattle.scripts.proofs.Prepared.{load-writes}
+
+room-some : (shape : Shape) → 1 ≤ room shape .1
+room-some (Slope full) = omega arith
+room-some Steps = omega arith
 
 -- "13 writes", "24 writes", and of chip 4 one more than of chip 1: its script "goes as chip 1's, but selects a bank before the first write"
 pub script-lengths : (scriptLength Nct7802y ≡ 13) × (scriptLength F75373s ≡ 24) × (scriptLength Nct7904d ≡ 14)
@@ -39,6 +48,25 @@ script-of-table chip plan sized = sym (load-writes chip plan sized)
 -- .. and so by its chip
 pub script-of-plan : (chip : Chip) (plan : Plan) → Sized plan → So (hasTable chip (plan .table)) → length (scriptOf chip plan) ≡ scriptLength chip
 script-of-plan chip plan sized has = script-of-table chip plan sized ∙ ap writesIn (table-laid chip (plan .table) has)
+
+-- a table with a speed has a write
+some-writes : (full : ℕ) (table : Table) (curve : Curve) → 1 ≤ length (table .speeds) → 1 ≤ length (script full table curve)
+some-writes full table curve = by-speeds (table .speeds)
+  where
+    by-speeds : (speeds : List ℕ) → 1 ≤ length speeds
+        → 1 ≤ length (writes speeds (fulls full speeds) ++ (writes (table .settings) (curve .settings) ++ writes speeds (curve .speeds)))
+    by-speeds [] h = absurd (not-suc-le-zero h)
+    by-speeds (p ∷ ps) h = omega arith
+
+-- so no script of a table that the chip has is empty
+pub script-some : (chip : Chip) (plan : Plan) → So (hasTable chip (plan .table)) → 1 ≤ length (scriptOf chip plan)
+unfolding placements
+script-some chip plan has =
+    let table = tableOf chip (plan .table) in
+    let curve = plannedFor chip plan in
+    let full = fullOf (shapeOf chip (plan .table)) in
+    let speeds : 1 ≤ length (table .speeds) = omega (arith, table-sized chip (plan .table) has .1, room-some (shapeOf chip (plan .table))) in
+    omega (arith, bus-length chip (placements chip plan), some-writes full table curve speeds)
 
 -- "The answer says how many writes."
 pub script-counts : {plan : Plan} {out new : List ℕ} {n : ℕ} (chip : Chip) → chipOf (plan .chip) ≡ Known chip → Sized plan

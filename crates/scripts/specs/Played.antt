@@ -25,6 +25,11 @@ abbrev pub stops : (List Pair → List ℕ → List ℕ) → List Pair → List 
 stops play ws image [] = image
 stops play ws image (k ∷ ks) = stops play ws (play (take k ws) image) ks
 
+-- after how many the last of some is cut; n where there is none
+abbrev pub lastOf : ℕ → List ℕ → ℕ
+lastOf n [] = n
+lastOf n (k ∷ ks) = lastOf k ks
+
 -- the positions that a play of a table's script may change: the table's, and the bank select register where there is one
 abbrev pub touched : Chip → ℕ → List ℕ
 touched chip table = asideIn (banksOf chip) ++ positions (tableOf chip table)
