@@ -332,9 +332,9 @@ uint64_t yk_script(uint8_t chip, uint8_t table, const uint8_t *body, size_t body
  * Every play begins with the script's first write: after a cut, play the whole script again. That
  * may be cut too, any number of times. If the first play was not refused, each one after it is of
  * the same plan and on the image that the one before left, and nothing else writes to that image,
- * then none of them is refused, at every stop the image asks for no less than the slower of the
- * very first table and the plan, and a play that makes all writes ends at the plan. Of chip 4 the
- * select counts as a write.
+ * then none of them is refused, at every stop the image asks for nothing slower than the slower of
+ * the very first table and the plan, and a play that makes all writes ends at the plan. Of chip 4
+ * the select counts as a write.
  * Refusals: 3, 4, 5, 6, 7, 8, 10. Value: the number of writes made. Afterwards: outside of the
  * plan's table and, of chip 4, the bank select register the image is as it was; after a whole
  * script the table holds the plan's body.
