@@ -111,6 +111,7 @@ const MISSING: Layout = Layout {
     whole: true,
     selects: 0,
     leading: false,
+    counted: false,
 };
 
 // How the fan table of a number is laid out; where there is none, without a register.

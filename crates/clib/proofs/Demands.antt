@@ -16,7 +16,7 @@ use Rattle.pages.specs.declared.Named.{Named}
 use Rattle.pages.specs.declared.Named.the-variants.{Known}
 use Rattle.pages.specs.declared.Fan.{Fan}
 use Rattle.pages.specs.declared.Layout.{Layout}
-use Rattle.pages.specs.Rows.{masksIn, requiredIn, column, stretch, standsAt}
+use Rattle.pages.specs.Rows.{masksIn, requiredIn, column, inOneRow, standsAt}
 use Rattle.pages.specs.Banks.{oneBank, standsIn}
 use Rattle.pages.specs.Sheets.{sizesIn, missing, layout, selectorIn}
 use Rattle.pages.specs.Cards.{sheetOf, banksOf, chipOf, chipNumber, unknown, hasTable, rowOf, layoutOf, groundOf, tellsNamed, tellsFan}
@@ -99,11 +99,7 @@ demand-1 =
       ground-of = λ chip number. record { answer = groundOf chip number; kept = record { answer = refl } };
       selector-of = λ chip. record { answer = selectorIn (sheetOf chip); kept = record { answer = refl } };
       position-of = λ chip bank address. record { answer = standsIn (banksOf chip) bank address; kept = record { answer = refl } };
-      one-row =
-          λ first settings speeds masks. record {
-            answer = record { settings = stretch first settings masks; last = stretch (first + settings) 1 masks; speeds = stretch (first + settings + 1) speeds masks };
-            kept = record { answer = refl };
-          };
+      one-row = λ first settings speeds masks. record { answer = inOneRow first settings speeds masks; kept = record { answer = refl } };
       register-at = λ ground k. record { answer = standsAt ground k; kept = record { answer = refl } };
       admit = λ chip size r p. told-answered 0 chip _ (admits-told p);
       write = λ chip old address byte r new p. (verdict-answered r _ (p .answer), left-kept (imageChecks chip old) _ (p .answer) (p .bytes));

@@ -62,21 +62,25 @@ const IDENTITY: [Required; REQUIRED] = [
         position: 0x5A,
         bits: 0xFF,
         value: 0x02,
+        other: 0x02,
     },
     Required {
         position: 0x5B,
         bits: 0xFF,
         value: 0x04,
+        other: 0x04,
     },
     Required {
         position: 0x5D,
         bits: 0xFF,
         value: 0x19,
+        other: 0x19,
     },
     Required {
         position: 0x5E,
         bits: 0xFF,
         value: 0x34,
+        other: 0x34,
     },
 ];
 
@@ -117,6 +121,7 @@ pub fn table(number: u8) -> Fan
             whole: true,
             selects: 0,
             leading: false,
+            counted: false,
         }),
         _ => Fan::Nothing,
     }

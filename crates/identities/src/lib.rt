@@ -16,7 +16,8 @@ fn holds(image: &[u8], required: Required) -> bool
     ensures { λ r. ⌜ r ≡ holds (now (image .entry)) required ⌝ }
 {
     let at = required.position;
-    image[at] & required.bits == required.value
+    let held = image[at] & required.bits;
+    (held == required.value) | (held == required.other)
 }
 
 // Where nothing is required, nothing is confirmed.

@@ -4,7 +4,7 @@ use Prim.Native.Nat.{ℕ, zero, suc, _+_, _*_, _/_, _%_, _^_, _<_, min}
 use native.Mathlib.Nat.{pow-suc, min-zero}
 use native.Mathlib.Omega.{arith}
 use mathlib.Core.Path.{_≡_, refl, sym, ap, ap₂, subst, _∙_}
-use mathlib.Core.Bool.{Bool, true, false, So, _&&_}
+use mathlib.Core.Bool.{Bool, true, false, So, _&&_, _||_}
 use mathlib.Core.List.{List, [], _∷_}
 use borrow.Author.Tests.{eqb-true, eqb-false, lt-ltb, ltb-true, ltb-false}
 use lib.Arith.{lt-one}
@@ -114,7 +114,7 @@ kept sheet position byte image (r ∷ rs) t =
     let parts = both (lasting sheet r) _ t in
     let unchanging = both (ltb (r .position) (sheet .size)) _ (parts .0) .1 in
     ap₂ _&&_
-    (ap (λ (y : ℕ). eqb y (r .value))
+    (ap (λ (y : ℕ). eqb y (r .value) || eqb y (r .other))
     (seen (rowIn (sheet .card) position) position byte image (r .position) (r .bits)
     (λ e. subst (λ (a : ℕ). So (fixed (rowIn (sheet .card) a) (r .bits))) e unchanging)))
     (kept sheet position byte image rs (parts .1))

@@ -48,26 +48,31 @@ const IDENTITY: [Required; REQUIRED] = [
         position: 0xFD,
         bits: 0xFF,
         value: 0x50,
+        other: 0x50,
     },
     Required {
         position: 0xFE,
         bits: 0xFF,
         value: 0xC3,
+        other: 0xC3,
     },
     Required {
         position: 0xFF,
         bits: 0xF0,
         value: 0x20,
+        other: 0x20,
     },
     Required {
         position: 0x05,
         bits: 0x1F,
         value: 0x00,
+        other: 0x00,
     },
     Required {
         position: 0x08,
         bits: 0x3F,
         value: 0x00,
+        other: 0x00,
     },
 ];
 
@@ -105,10 +110,11 @@ pub fn table(number: u8) -> Fan
         1..=3 => Fan::Laid(Layout {
             settings: 5,
             speeds: 4,
-            shape: Shape::Slope(255),
+            shape: Shape::Slope(4, 255),
             whole: true,
             selects: 0,
             leading: false,
+            counted: false,
         }),
         _ => Fan::Nothing,
     }

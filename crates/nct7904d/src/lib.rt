@@ -91,31 +91,37 @@ const IDENTITY: [Required; REQUIRED] = [
         position: 0x0D,
         bits: 0xFF,
         value: 0x50,
+        other: 0x50,
     },
     Required {
         position: 0x0E,
         bits: 0xFF,
         value: 0xC5,
+        other: 0xC5,
     },
     Required {
         position: 0x0F,
         bits: 0xF0,
         value: 0x50,
+        other: 0x50,
     },
     Required {
         position: 0x7A,
         bits: 0xFF,
         value: 0x50,
+        other: 0x50,
     },
     Required {
         position: 0x7B,
         bits: 0xFF,
         value: 0xC5,
+        other: 0xC5,
     },
     Required {
         position: 0x7C,
         bits: 0xF0,
         value: 0x50,
+        other: 0x50,
     },
 ];
 
@@ -184,10 +190,11 @@ pub fn table(number: u8) -> Fan
         1..=10 => Fan::Laid(Layout {
             settings: 5,
             speeds: 4,
-            shape: Shape::Slope(255),
+            shape: Shape::Slope(4, 255),
             whole: true,
             selects: 1,
             leading: true,
+            counted: false,
         }),
         _ => Fan::Nothing,
     }

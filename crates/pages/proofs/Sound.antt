@@ -18,7 +18,7 @@ use Rattle.pages.specs.declared.Shape.{Shape}
 use Rattle.pages.specs.declared.Shape.the-variants.{Slope, Steps}
 use Rattle.pages.specs.Banks.{Banks, sharedIn, standsIn, asideIn, noBank, selectsFrom}
 use Rattle.pages.specs.Rows.{every, Line, Row, Table, positions, rowIn, column}
-use Rattle.pages.specs.Sheets.{greatest, Sheet, powerOnIn, tableIn, room, wholeIn, loaded, layout, stretchOf}
+use Rattle.pages.specs.Sheets.{greatest, mostPoints, longest, mostWrites, Sheet, powerOnIn, tableIn, room, wholeIn, loaded, layout, stretchOf}
 use Rattle.pages.specs.Cards.{sheetOf}
 use Rattle.pages.specs.Identity.{allHold}
 use Rattle.pages.specs.Nct7802y as nct7802y
@@ -79,7 +79,7 @@ selecting sheet position =
 
 -- what a speed's register takes: of a slope the full duty, and nothing above it
 abbrev pub reaches : Shape → ℕ → Bool
-reaches (Slope full) mask = eqb mask full
+reaches (Slope points full) mask = eqb mask full
 reaches Steps mask = true
 
 abbrev pub reachesAt : Sheet → Shape → ℕ → Bool
@@ -89,17 +89,23 @@ reachesAt sheet shape position = reaches shape (rowIn (sheet .card) position .wr
 abbrev pub separate : Sheet → Table → Bool
 separate sheet table =
     every (stands sheet) (positions table)
-    && (distinct (positions table) && (leb (length (positions table)) 14 && every (reachesAt sheet (table .shape)) (table .speeds)))
+    && (distinct (positions table) && (leb (length (positions table)) longest && every (reachesAt sheet (table .shape)) (table .speeds)))
+
+-- "a point count from 2 to 8"
+abbrev pub pointed : Shape → Bool
+pointed (Slope points full) = leb 2 points && leb points mostPoints
+pointed Steps = true
 
 -- a table is as long as its curve
 abbrev pub sized : Table → Bool
-sized table = eqb (length (table .settings)) (room (table .shape) .0) && eqb (length (table .speeds)) (room (table .shape) .1)
+sized table =
+    pointed (table .shape) && (eqb (length (table .settings)) (room (table .shape) .0) && eqb (length (table .speeds)) (room (table .shape) .1))
 
 -- one kind of curve
 abbrev pub ofShape : Shape → Shape → Bool
-ofShape (Slope full) (Slope other) = eqb full other
-ofShape (Slope full) Steps = false
-ofShape Steps (Slope other) = false
+ofShape (Slope points full) (Slope others other) = eqb points others && eqb full other
+ofShape (Slope points full) Steps = false
+ofShape Steps (Slope others other) = false
 ofShape Steps Steps = true
 
 abbrev pub both-or-neither : Bool → Bool → Bool
@@ -114,9 +120,9 @@ alike sheet other table =
     && (eqb (length (table .speeds)) (length (other .speeds))
     && (both-or-neither (wholeIn (sheet .card) table) (wholeIn (sheet .card) other)
     && (eqb (selectsFrom (sheet .banks) noBank (loaded table)) (selectsFrom (sheet .banks) noBank (loaded other))
-    && both-or-neither (table .leading) (other .leading)))))
+    && (both-or-neither (table .leading) (other .leading) && both-or-neither (table .counted) (other .counted))))))
 
--- the registers of a table as its record has them: "in register order"
+-- the registers of a table as its record has them
 abbrev pub recorded : Table → List ℕ
 recorded table =
     cond (table .leading) (getD (table .settings) (length (table .settings) - 1) 0 ∷ (take (length (table .settings) - 1) (table .settings) ++ table .speeds))
@@ -126,6 +132,11 @@ recorded table =
 abbrev pub behind : ℕ → List ℕ → Bool
 behind least [] = true
 behind least (p ∷ ps) = leb least p && behind (suc p) ps
+
+-- "the record's body being that table in register order"; where the record carries the number of points, "that many temperatures, critical, and that
+-- many duties", wherever these stand
+abbrev pub ordered : Table → Bool
+ordered table = cond (table .counted) (not (table .leading)) (behind 0 (recorded table))
 
 -- some positions are in a row from the first on, and their registers have these masks
 abbrev pub inARow : List Line → Masks → ℕ → List ℕ → Bool
@@ -144,11 +155,11 @@ inStretches card table =
     && (isStretch card (drop (length (table .settings) - 1) (table .settings)) && isStretch card (table .speeds))
 
 -- what a text has room for: the lines of a plan, a header of at most 35 bytes and 6 for each write, are no more than ten for each byte of its record,
--- whose header has 4; and no script has more than 24 writes
+-- whose header has 4; and no script has more writes than the text's buffer
 abbrev pub brief : Layout → Bool
 brief l =
     leb (35 + 6 * (l .selects + (l .speeds + (l .settings + l .speeds)))) (10 * (4 + (l .settings + l .speeds)))
-    && leb (l .selects + (l .speeds + (l .settings + l .speeds))) 24
+    && leb (l .selects + (l .speeds + (l .settings + l .speeds))) mostWrites
 
 abbrev tests : Sheet → List Bool
 tests sheet =
@@ -167,7 +178,7 @@ tests sheet =
     ∷ every (selecting sheet) (asideIn (sheet .banks))
     ∷ ltb (sheet .banks .bits) (2 ^ 8)
     ∷ every (λ table. brief (layout (sheet .banks) (sheet .card) table)) (sheet .tables)
-    ∷ every (λ table. behind 0 (recorded table)) (sheet .tables)
+    ∷ every ordered (sheet .tables)
     ∷ every (inStretches (sheet .card)) (sheet .tables)
     ∷ []
 
@@ -195,8 +206,8 @@ pub record Sound (sheet : Sheet) : Type 0 where
   pub selects : So (every (selecting sheet) (asideIn (sheet .banks)))
   pub bits : sheet .banks .bits < 2 ^ 8
   pub texts : So (every (λ table. brief (layout (sheet .banks) (sheet .card) table)) (sheet .tables))
-  -- a record is in register order
-  pub records : So (every (λ table. behind 0 (recorded table)) (sheet .tables))
+  -- a record is in register order, or in the order of the mark 43h 51h
+  pub records : So (every ordered (sheet .tables))
   -- what the ground of a table can say
   pub stretches : So (every (inStretches (sheet .card)) (sheet .tables))
 

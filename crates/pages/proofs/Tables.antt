@@ -4,7 +4,7 @@
 use Prim.Native.Nat.{ℕ, zero, suc, _+_, _-_, _*_, _/_, _^_, _≤_, _<_}
 use native.Mathlib.Nat.{mod-eq-of-lt}
 use native.Mathlib.Omega.{arith}
-use mathlib.Core.Path.{_≡_, refl, sym, ap, subst, _∙_}
+use mathlib.Core.Path.{_≡_, refl, sym, ap, ap₂, subst, _∙_}
 use mathlib.Core.Bool.{Bool, true, false, So, cond, true≢false, _&&_}
 use mathlib.Core.List.{List, [], _∷_, _++_, map, map-append, append-assoc}
 use borrow.Author.Tests.{leb-false, eqb-true, ltb-true, ltb-false, leb-true, le-leb}
@@ -21,10 +21,10 @@ use Rattle.pages.specs.declared.Fan.{Fan}
 use Rattle.pages.specs.declared.Fan.the-variants.{Laid, Nothing}
 use Rattle.pages.specs.Banks.{noBank, selectsFrom}
 use Rattle.pages.specs.Rows.{every, Line, Table, positions, rowIn, withMasks, registerAt, noRegister, from, spreadAll, standsAt}
-use Rattle.pages.specs.Sheets.{Sheet, missing, room, hasTableIn, tableIn, wholeIn, loaded, layout, laidIn, registerIn, stretchOf, groundIn}
+use Rattle.pages.specs.Sheets.{longest, mostPoints, mostWrites, Sheet, missing, room, hasTableIn, tableIn, wholeIn, loaded, layout, laidIn, registerIn, stretchOf, groundIn}
 use Rattle.pages.specs.Cards.{sheetOf, cardOf, banksOf, sizeOf, rowOf, tablesOf, hasTable, tableOf, shapeOf, layoutOf, groundOf}
 use Rattle.pages.proofs.Every.{both, of-every, everywhere, map-at, distinct, apart}
-use Rattle.pages.proofs.Sound.{stands, reaches, reachesAt, separate, sized, ofShape, both-or-neither, alike, inARow, isStretch, inStretches, brief, Sound, sound-sheet}
+use Rattle.pages.proofs.Sound.{stands, reaches, reachesAt, separate, pointed, sized, ofShape, both-or-neither, alike, inARow, isStretch, inStretches, brief, Sound, sound-sheet}
 
 -- tables have the numbers from 1 on
 numbered : (tables : List Table) (number : ℕ) → So (hasTableIn tables number) → (1 ≤ number) × (number ≤ length tables)
@@ -92,9 +92,11 @@ ground-spread card table t =
     ∙ sym (map-append f (table .settings) (table .speeds))
 
 one-shape : (a b : Shape) → So (ofShape a b) → a ≡ b
-one-shape (Slope full) (Slope other) t = ap Slope (eqb-true full other t)
-one-shape (Slope full) Steps t = absurd (true≢false (sym t))
-one-shape Steps (Slope other) t = absurd (true≢false (sym t))
+one-shape (Slope points full) (Slope others other) t =
+    let parts = both (eqb points others) (eqb full other) t in
+    ap₂ Slope (eqb-true points others (parts .0)) (eqb-true full other (parts .1))
+one-shape (Slope points full) Steps t = absurd (true≢false (sym t))
+one-shape Steps (Slope others other) t = absurd (true≢false (sym t))
 one-shape Steps Steps t = refl
 
 one-answer : (a b : Bool) → So (both-or-neither a b) → a ≡ b
@@ -112,13 +114,15 @@ laid-alike sheet other table t =
     let speeds = both (eqb (length (table .speeds)) (length (other .speeds))) _ (settings .1) in
     let whole = both (both-or-neither (wholeIn (sheet .card) table) (wholeIn (sheet .card) other)) _ (speeds .1) in
     let selects = both (eqb (selectsFrom (sheet .banks) noBank (loaded table)) (selectsFrom (sheet .banks) noBank (loaded other))) _ (whole .1) in
+    let leading = both (both-or-neither (table .leading) (other .leading)) _ (selects .1) in
     (λ i. record {
       settings = eqb-true (length (table .settings)) (length (other .settings)) (settings .0) i;
       speeds = eqb-true (length (table .speeds)) (length (other .speeds)) (speeds .0) i;
       shape = one-shape (table .shape) (other .shape) (shape .0) i;
       whole = one-answer (wholeIn (sheet .card) table) (wholeIn (sheet .card) other) (whole .0) i;
       selects = eqb-true (selectsFrom (sheet .banks) noBank (loaded table)) (selectsFrom (sheet .banks) noBank (loaded other)) (selects .0) i;
-      leading = one-answer (table .leading) (other .leading) (selects .1) i;
+      leading = one-answer (table .leading) (other .leading) (leading .0) i;
+      counted = one-answer (table .counted) (other .counted) (leading .1) i;
     })
 
 -- of any page that passes, and any number: a table that is missing has no register to speak of
@@ -132,18 +136,18 @@ module _ (sheet : Sheet) (S : Sound sheet) (number : ℕ) where
   all-stand : So (every (stands sheet) (positions table))
   all-stand = both (every (stands sheet) (positions table)) _ tested-table .0
 
-  beside : So (distinct (positions table)) × So (leb (length (positions table)) 14 && every (reachesAt sheet (table .shape)) (table .speeds))
+  beside : So (distinct (positions table)) × So (leb (length (positions table)) longest && every (reachesAt sheet (table .shape)) (table .speeds))
   beside = both (distinct (positions table)) _ (both (every (stands sheet) (positions table)) _ tested-table .1)
 
   sheet-distinct : (j k : ℕ) → j < length (positions table) → k < length (positions table)
       → getD (positions table) j 0 ≡ getD (positions table) k 0 → j ≡ k
   sheet-distinct = apart (positions table) (beside .0)
 
-  sheet-short : length (positions table) ≤ 14
-  sheet-short = leb-true (length (positions table)) 14 (both (leb (length (positions table)) 14) _ (beside .1) .0)
+  sheet-short : length (positions table) ≤ longest
+  sheet-short = leb-true (length (positions table)) longest (both (leb (length (positions table)) longest) _ (beside .1) .0)
 
   sheet-reaches : (k : ℕ) → k < length (table .speeds) → So (reaches (table .shape) (rowIn (sheet .card) (getD (table .speeds) k 0) .writable))
-  sheet-reaches = of-every (reachesAt sheet (table .shape)) (table .speeds) 0 (both (leb (length (positions table)) 14) _ (beside .1) .1)
+  sheet-reaches = of-every (reachesAt sheet (table .shape)) (table .speeds) 0 (both (leb (length (positions table)) longest) _ (beside .1) .1)
 
   sheet-inside : (k : ℕ) → k < length (positions table) → getD (positions table) k 0 < sheet .size
   sheet-inside k h =
@@ -176,14 +180,17 @@ module _ (sheet : Sheet) (S : Sound sheet) (number : ℕ) (has : So (hasTableIn 
       × (length (tableIn (sheet .tables) number .speeds) ≡ room (tableIn (sheet .tables) number .shape) .1)
   sheet-sized =
       let table = tableIn (sheet .tables) number in
-      let parts = both (eqb (length (table .settings)) (room (table .shape) .0)) _ (of-tables sized (S .sizes)) in (
+      let parts = both (eqb (length (table .settings)) (room (table .shape) .0)) _ (both (pointed (table .shape)) _ (of-tables sized (S .sizes)) .1) in (
         eqb-true (length (table .settings)) (room (table .shape) .0) (parts .0),
         eqb-true (length (table .speeds)) (room (table .shape) .1) (parts .1),
       )
 
+  sheet-pointed : So (pointed (tableIn (sheet .tables) number .shape))
+  sheet-pointed = both (pointed (tableIn (sheet .tables) number .shape)) _ (of-tables sized (S .sizes)) .0
+
 module _ (chip : Chip) (number : ℕ) where
   -- no more registers than the longest body has bytes
-  pub table-short : length (positions (tableOf chip number)) ≤ 14
+  pub table-short : length (positions (tableOf chip number)) ≤ longest
   table-short = sheet-short (sheetOf chip) (sound-sheet chip) number
 
   -- each is inside the image
@@ -256,16 +263,20 @@ module _ (chip : Chip) (number : ℕ) (has : So (hasTable chip number)) where
       × (length (tableOf chip number .speeds) ≡ room (shapeOf chip number) .1)
   table-sized = sheet-sized (sheetOf chip) (sound-sheet chip) number has
 
+  -- a slope has at most eight points
+  pub table-pointed : So (pointed (shapeOf chip number))
+  table-pointed = sheet-pointed (sheetOf chip) (sound-sheet chip) number has
+
   -- its script is short, and so is its text
   pub table-brief : (35 + 6 * (layoutOf chip number .selects + (layoutOf chip number .speeds + (layoutOf chip number .settings + layoutOf chip number .speeds)))
       ≤ 10 * (4 + (layoutOf chip number .settings + layoutOf chip number .speeds)))
-      × (layoutOf chip number .selects + (layoutOf chip number .speeds + (layoutOf chip number .settings + layoutOf chip number .speeds)) ≤ 24)
+      × (layoutOf chip number .selects + (layoutOf chip number .speeds + (layoutOf chip number .settings + layoutOf chip number .speeds)) ≤ mostWrites)
   table-brief =
       let l = layoutOf chip number in
       let writes = l .selects + (l .speeds + (l .settings + l .speeds)) in
       let bytes = 10 * (4 + (l .settings + l .speeds)) in
-      let parts = both (leb (35 + 6 * writes) bytes) (leb writes 24) (sheet-brief (sheetOf chip) (sound-sheet chip) number has) in
-      (leb-true (35 + 6 * writes) bytes (parts .0), leb-true writes 24 (parts .1))
+      let parts = both (leb (35 + 6 * writes) bytes) (leb writes mostWrites) (sheet-brief (sheetOf chip) (sound-sheet chip) number has) in
+      (leb-true (35 + 6 * writes) bytes (parts .0), leb-true writes mostWrites (parts .1))
 
   -- a chip's tables are laid out alike
   pub table-laid : layoutOf chip number ≡ layoutOf chip 1

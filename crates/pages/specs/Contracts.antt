@@ -1,6 +1,6 @@
 -- What a look-up promises: that of a chip's own crate at its chip, and that of `cards` at every chip.
 -- Assumes nothing.
-use Prim.Native.Nat.{ℕ, _+_}
+use Prim.Native.Nat.{ℕ}
 use mathlib.Core.Path.{_≡_}
 use Rattle.pages.specs.declared.Chip.{Chip}
 use Rattle.pages.specs.declared.Named.{Named}
@@ -13,7 +13,7 @@ use Rattle.pages.specs.declared.Sizes.{Sizes}
 use Rattle.pages.specs.declared.Fan.{Fan}
 use Rattle.pages.specs.declared.Layout.{Layout}
 use Rattle.pages.specs.Banks.{standsIn}
-use Rattle.pages.specs.Rows.{masksIn, requiredIn, stretch, standsAt}
+use Rattle.pages.specs.Rows.{masksIn, requiredIn, inOneRow, standsAt}
 use Rattle.pages.specs.Sheets.{sizesIn, laidIn, selectorIn}
 use Rattle.pages.specs.Cards.{sheetOf, chipOf, banksOf, rowOf, layoutOf, groundOf}
 
@@ -59,8 +59,7 @@ pub record Positions (chip : Chip) (bank address position : ℕ) : Type 0 where
 
 -- what `pages::one_row` promises
 pub record StandsInOneRow (first settings speeds : ℕ) (masks : Masks) (ground : Ground) : Type 0 where
-  pub answer : ground
-      ≡ record { settings = stretch first settings masks; last = stretch (first + settings) 1 masks; speeds = stretch (first + settings + 1) speeds masks }
+  pub answer : ground ≡ inOneRow first settings speeds masks
 
 -- what `pages::register_at` promises: the k-th register of the ground, and none behind the last
 pub record StandsAt (ground : Ground) (k : ℕ) (register : Register) : Type 0 where

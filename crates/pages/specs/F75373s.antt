@@ -117,7 +117,7 @@ identity = required 0x5A 0xFF 0x02 ∷ required 0x5B 0xFF 0x04 ∷ required 0x5D
 
 -- "fan 1 has B1 to B4 at A0h to A3h and C1 to C5 from A4h to ADh, high byte first; fan 2 the same from B0h"
 abbrev pub table : ℕ → Table
-table base = record { settings = from base 4; speeds = from (base + 4) 10; shape = Steps; leading = false }
+table base = record { settings = from base 4; speeds = from (base + 4) 10; shape = Steps; leading = false; counted = false }
 
 abbrev pub tables : List Table
 tables = table 0xA0 ∷ table 0xB0 ∷ []

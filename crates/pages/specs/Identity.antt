@@ -1,7 +1,7 @@
 -- "Identity": an image is a chip's only if every bit that the rules paper names agrees.
 -- Assumes nothing.
 use Prim.Native.Nat.{ℕ}
-use mathlib.Core.Bool.{Bool, true, false, _&&_}
+use mathlib.Core.Bool.{Bool, true, false, _&&_, _||_}
 use mathlib.Core.List.{List, [], _∷_}
 use lib.Bits.{bitAnd}
 use lib.Dec.{eqb}
@@ -10,8 +10,11 @@ use Rattle.pages.specs.declared.Chip.{Chip}
 use Rattle.pages.specs.declared.Required.{Required}
 use Rattle.pages.specs.Cards.{sheetOf}
 
+-- the bits that count hold the value, or one of two
 abbrev pub holds : List ℕ → Required → Bool
-holds image r = eqb (bitAnd (getD image (r .position) 0) (r .bits)) (r .value)
+holds image r =
+    let held = bitAnd (getD image (r .position) 0) (r .bits) in
+    eqb held (r .value) || eqb held (r .other)
 
 -- "Confirmed means all of them."
 abbrev pub allHold : List ℕ → List Required → Bool

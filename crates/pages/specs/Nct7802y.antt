@@ -189,7 +189,7 @@ temperature = record { width = 11; high = 0x01 ∷ 0x02 ∷ 0x03 ∷ []; low = 0
 
 -- "table 1 has T1 to T4 at 80h to 83h, critical 84h, FL1 to FL4 85h to 88h; table 2 the same from 90h, table 3 from A0h"
 abbrev pub table : ℕ → Table
-table base = record { settings = from base 5; speeds = from (base + 5) 4; shape = Slope 255; leading = false }
+table base = record { settings = from base 5; speeds = from (base + 5) 4; shape = Slope 4 255; leading = false; counted = false }
 
 abbrev pub tables : List Table
 tables = table 0x80 ∷ table 0x90 ∷ table 0xA0 ∷ []

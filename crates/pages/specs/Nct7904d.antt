@@ -1,7 +1,7 @@
 -- Nuvoton NCT7904D, source document 003: five banks behind a bank select register.
 -- Assumes nothing.
 use Prim.Native.Nat.{ℕ, _+_}
-use mathlib.Core.Bool.{true}
+use mathlib.Core.Bool.{true, false}
 use mathlib.Core.List.{List, [], _∷_, _++_}
 use Rattle.pages.specs.declared.Required.{Required}
 use Rattle.pages.specs.declared.Shape.the-variants.{Slope}
@@ -48,7 +48,14 @@ temperatures =
 
 -- T1 to T4 and P1 to P4 in a row, and critical before them: "the record's body being that table in register order"
 abbrev pub table : ℕ → ℕ → Table
-table critical first = record { settings = from first 4 ++ (critical ∷ []); speeds = from (first + 4) 4; shape = Slope 255; leading = true }
+table critical first =
+    record {
+      settings = from first 4 ++ (critical ∷ []);
+      speeds = from (first + 4) 4;
+      shape = Slope 4 255;
+      leading = true;
+      counted = false;
+    }
 
 -- 7.4.16 and 7.4.19: tables 1 to 4, in bank 3; 7.5.3 and 7.5.5: tables 5 to 10, in bank 4
 abbrev pub tables : List Table

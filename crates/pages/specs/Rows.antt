@@ -1,6 +1,6 @@
 -- "Register cards": what a card's lines say of each position of an image.
 -- Assumes nothing.
-use Prim.Native.Nat.{ℕ, zero, suc}
+use Prim.Native.Nat.{ℕ, zero, suc, _+_}
 use mathlib.Core.Bool.{Bool, true, cond, _&&_}
 use mathlib.Core.List.{List, [], _∷_, _++_, map}
 use lib.Dec.{eqb}
@@ -21,9 +21,13 @@ every test (a ∷ l) = test a && every test l
 abbrev pub Line : Type 0
 Line = ℕ × ℕ × ℕ × ℕ
 
--- a register that identity looks at: its position, the bits that count, and what these hold
+-- a register that identity looks at: its position, the bits that count, and what these hold, one of two values ..
+abbrev pub requiredOneOf : ℕ → ℕ → ℕ → ℕ → Required
+requiredOneOf position bits value other = record { position = position; bits = bits; value = value; other = other }
+
+-- .. or one only
 abbrev pub required : ℕ → ℕ → ℕ → Required
-required position bits value = record { position = position; bits = bits; value = value }
+required position bits value = requiredOneOf position bits value value
 
 -- the k-th of some, and no bit of any register behind the last
 abbrev pub requiredIn : List Required → ℕ → Required
@@ -59,6 +63,8 @@ pub record Table : Type 0 where
   pub shape : Shape
   -- the last setting, critical, leads in a record, where its register stands before the others
   pub leading : Bool
+  -- a record has the mark 43h 51h, and carries the number of points
+  pub counted : Bool
 
 -- all registers of a table, in register order
 abbrev pub positions : Table → List ℕ
@@ -99,6 +105,11 @@ stretch first count masks = record { first = first; count = count; masks = masks
 
 abbrev pub spread : Stretch → List Register
 spread r = map (withMasks (r .masks)) (from (r .first) (r .count))
+
+-- where a table stands whose registers are all in a row: some settings and one more, then the speeds
+abbrev pub inOneRow : ℕ → ℕ → ℕ → Masks → Ground
+inOneRow first settings speeds masks =
+    record { settings = stretch first settings masks; last = stretch (first + settings) 1 masks; speeds = stretch (first + settings + 1) speeds masks }
 
 -- each register of the ground of a fan table, settings first
 abbrev pub spreadAll : Ground → List Register

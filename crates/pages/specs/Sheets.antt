@@ -1,6 +1,6 @@
 -- A chip as one page of facts, everything that sets it apart from the others; and what is read off a page.
 -- Assumes nothing.
-use Prim.Native.Nat.{ℕ, _-_}
+use Prim.Native.Nat.{ℕ, _+_, _-_}
 use mathlib.Core.Bool.{Bool, false, cond, _&&_}
 use mathlib.Core.List.{List, [], _∷_, _++_, map}
 use lib.Dec.{eqb, leb}
@@ -22,6 +22,18 @@ use Rattle.pages.specs.Rows.{every, Line, Table, Reading, positions, row
 -- no image has more bytes
 abbrev pub greatest : ℕ
 greatest = 1280
+
+-- "we want up to eight": no slope has more points ..
+abbrev pub mostPoints : ℕ
+mostPoints = 8
+
+-- .. and no fan table more registers: as many temperatures, critical, as many duties
+abbrev pub longest : ℕ
+longest = mostPoints + 1 + mostPoints
+
+-- no script has more writes
+abbrev pub mostWrites : ℕ
+mostWrites = 25
 
 pub record Sheet : Type 0 where
   -- "Chip 1 is the Nuvoton NCT7802Y (source document 000), chip 2 the Fintek F75373S (002), chip 3 the onsemi NCT80 (004)"; the NCT7904D (003) is
@@ -49,11 +61,12 @@ powerOnIn sheet = column (sheet .size) (λ position. rowIn (sheet .card) positio
 
 -- a table without a register stands in where there is none, as for number 0
 abbrev pub missing : Table
-missing = record { settings = []; speeds = []; shape = Steps; leading = false }
+missing = record { settings = []; speeds = []; shape = Steps; leading = false; counted = false }
 
--- how many settings and speeds a curve of a shape has: T1 to T4 and critical, FL1 to FL4; B1 to B4, the high and low bytes of C1 to C5
+-- how many settings and speeds a curve of a shape has: a temperature for each point and critical, and a duty for each point; B1 to B4, the high and
+-- low bytes of C1 to C5
 abbrev pub room : Shape → ℕ × ℕ
-room (Slope full) = (5, 4)
+room (Slope points full) = (points + 1, points)
 room Steps = (4, 10)
 
 -- whether there is a table of that number, and which it is
@@ -82,6 +95,7 @@ layout banks card table =
       whole = wholeIn card table;
       selects = selectsFrom banks noBank (loaded table);
       leading = table .leading;
+      counted = table .counted;
     }
 
 abbrev pub laidIn : Sheet → ℕ → Fan

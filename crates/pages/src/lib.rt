@@ -55,21 +55,22 @@ pub struct Sizes {
     pub identity: usize,
 }
 
-// A register that identity looks at: the bits that count, and what these hold.
+// A register that identity looks at: the bits that count, and what these hold, one value or the other; both are the same where there is one only.
 pub struct Required {
     pub position: usize,
     pub bits: u8,
     pub value: u8,
+    pub other: u8,
 }
 
-// What a fan table's curve is: a slope between points, with its full duty, or steps of counts.
+// What a fan table's curve is: a slope between points, with their number and its full duty, or steps of counts.
 pub enum Shape {
-    Slope(u8),
+    Slope(u8, u8),
     Steps,
 }
 
 // How many registers of each kind a fan table has, what its curve is, whether every register of it takes every bit, so that each byte fits, how
-// many selects of a bank its script has, and whether critical leads in its record.
+// many selects of a bank its script has, whether critical leads in its record, and whether its record carries the number of its points.
 pub struct Layout {
     pub settings: usize,
     pub speeds: usize,
@@ -77,6 +78,7 @@ pub struct Layout {
     pub whole: bool,
     pub selects: usize,
     pub leading: bool,
+    pub counted: bool,
 }
 
 // The fan table of a number, if there is one.
@@ -116,6 +118,7 @@ pub const NOTHING: Required = Required {
     position: 0,
     bits: 0x00,
     value: 0x00,
+    other: 0x00,
 };
 
 // Where a table stands whose registers are all in a row: some settings and one more, then the speeds.
