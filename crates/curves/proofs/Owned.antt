@@ -11,6 +11,7 @@ use denote.Laws.{Is}
 use denote.Plain.{UInt}
 use denote.Shadow.{shadow}
 use denote.Struct.Declared.{row}
+use Rattle.pages.specs.Sheets.{mostPoints}
 use Rattle.curves.specs.declared.Plan.{Plan}
 use Rattle.curves.specs.Orders.{All}
 use Rattle.curves.specs.Values.{Within, Typed}
@@ -27,14 +28,15 @@ owned w n xs vs s = (sym (length-map xs (λ v. v)) ∙ s .1 .0 .1, each-within w
 
 pub plan-typed : (plan : Plan) (vs : List Val) → Is (row declared.the-type) plan vs → Typed plan
 plan-typed plan vs s =
-    let slope = s .1 .1 .1 .1 .0 .1 .1 in
-    let steps = s .1 .1 .1 .1 .1 .0 .1 .1 in
-    let temperatures = owned w8 4 (plan .slope .temperatures) _ (slope .0) in
-    let duties = owned w8 4 (plan .slope .duties) _ (slope .1 .1 .0) in
+    let slope = s .1 .1 .1 .1 .1 .0 .1 .1 in
+    let steps = s .1 .1 .1 .1 .1 .1 .0 .1 .1 in
+    let temperatures = owned w8 mostPoints (plan .slope .temperatures) _ (slope .0) in
+    let duties = owned w8 mostPoints (plan .slope .duties) _ (slope .1 .1 .0) in
     let bounds = owned w8 4 (plan .steps .bounds) _ (steps .0) in
     let counts = owned w16 5 (plan .steps .counts) _ (steps .1 .0) in
     record {
       sized = record { temperatures = temperatures .0; duties = duties .0; bounds = bounds .0; counts = counts .0 };
+      points = s .1 .1 .1 .1 .0 .1;
       temperatures = temperatures .1;
       critical = slope .1 .0 .1;
       duties = duties .1;

@@ -1,10 +1,10 @@
 -- A curve in register order: a list is spelled by its places, and a plan asks what its curve does.
 -- Assumes nothing.
-use Prim.Native.Nat.{ℕ, zero, suc, _+_, _≤_}
+use Prim.Native.Nat.{ℕ, zero, suc, _+_, _≤_, min}
 use native.Mathlib.Omega.{arith}
 use mathlib.Core.Path.{_≡_, refl, sym, ap, _∙_}
 use mathlib.Core.List.{List, [], _∷_, map}
-use lib.ListN.{length, getD, take, drop}
+use lib.ListN.{length, getD, take, drop, length-take}
 use lib.Seq.{drop-cons, take-all, take-at, getD-at}
 use Rattle.pages.specs.Rows.{from}
 use Rattle.pages.specs.declared.Shape.the-variants.{Slope, Steps}
@@ -25,13 +25,18 @@ pub spelled : (l : List ℕ) (n : ℕ) → length l ≡ n → valuesAt l (from 0
 spelled l n h = in-a-row l 0 n (omega arith) ∙ take-all n l (omega arith)
 
 -- a plan asks what the curve of its registers asks
-pub planned-duty : (full : ℕ) (plan : Plan) (t : ℕ) → Sized plan
-    → slope full (points (map degree (plan .slope .temperatures)) (plan .slope .duties)) (degree (plan .slope .critical)) (degree t)
-    ≡ asks (Slope full) (planned (Slope full) plan) t
-planned-duty full plan t sized =
-    let n = length (plan .slope .duties) in
-    let h : length (plan .slope .temperatures) ≡ n = sized .temperatures ∙ sym (sized .duties) in
-    rw (take-at (plan .slope .temperatures) (plan .slope .critical ∷ []) n h, getD-at (plan .slope .temperatures) (plan .slope .critical) [] 0 n h)
+pub planned-duty : (number full : ℕ) (plan : Plan) (t : ℕ) → Sized plan
+    → slope full (points (map degree (take number (plan .slope .temperatures))) (take number (plan .slope .duties)))
+    (degree (plan .slope .critical)) (degree t)
+    ≡ asks (Slope number full) (planned (Slope number full) plan) t
+planned-duty number full plan t sized =
+    let ts = take number (plan .slope .temperatures) in
+    let n = length (take number (plan .slope .duties)) in
+    let h : length ts ≡ n =
+        length-take number (plan .slope .temperatures)
+        ∙ ap (min number) (sized .temperatures ∙ sym (sized .duties))
+        ∙ sym (length-take number (plan .slope .duties)) in
+    rw (take-at ts (plan .slope .critical ∷ []) n h, getD-at ts (plan .slope .critical) [] 0 n h)
 
 pub planned-count : (plan : Plan) (t : ℕ) → stepRule (plan .steps .bounds) (plan .steps .counts) t ≡ asks Steps (planned Steps plan) t
 planned-count plan t = rw (words-halves (plan .steps .counts))

@@ -74,6 +74,11 @@ pub record Passed (full : ℕ) (ts ds : List ℕ) (t k : ℕ) : Type 0 where
   pub high : getD ts k 0 < t
   pub same : above (getD ts k 0, getD ds k 0) (points (drop (k + 1) ts) (drop (k + 1) ds)) t ≡ below full (points ts ds) t
 
+pub below-none : (full : ℕ) (ts ds : List ℕ) (t : ℕ) → length ts ≡ 0 → full ≡ below full (points ts ds) t
+unfolding below
+below-none full [] ds t a = refl
+below-none full (u ∷ ts) ds t a = absurd (omega arith)
+
 pub below-first : (full : ℕ) (ts ds : List ℕ) (t : ℕ) → 0 < length ts → length ts ≡ length ds → t ≤ getD ts 0 0
     → getD ds 0 0 ≡ below full (points ts ds) t
 unfolding below

@@ -17,7 +17,8 @@ pub record Curve : Type 0 where
 
 -- the curve of a plan: "the body in the register order"
 abbrev pub planned : Shape → Plan → Curve
-planned (Slope full) plan = record { settings = plan .slope .temperatures ++ (plan .slope .critical ∷ []); speeds = plan .slope .duties }
+planned (Slope points full) plan =
+    record { settings = take points (plan .slope .temperatures) ++ (plan .slope .critical ∷ []); speeds = take points (plan .slope .duties) }
 planned Steps plan = record { settings = plan .steps .bounds; speeds = halves (plan .steps .counts) }
 
 -- the bytes that stand at positions
@@ -32,31 +33,32 @@ askedDuty full n curve t =
 -- The speed that a curve asks at a temperature byte: a duty or a count. A slope has as many points as duties. "a curve's meaning below is that of the
 -- chip in its curve mode": fan mode bits are not asked.
 abbrev pub asks : Shape → Curve → ℕ → ℕ
-asks (Slope full) curve t = askedDuty full (length (curve .speeds)) curve t
+asks (Slope points full) curve t = askedDuty full (length (curve .speeds)) curve t
 asks Steps curve t = stepRule (curve .settings) (words (curve .speeds)) t
 
 -- "Accepted if T1 < T2 < T3 < T4, T4 at most critical (else 6)"; "Accepted if B1 > B2 > B3 > B4 (else 6)"
 abbrev pub temperaturesInOrder : Shape → Plan → Bool
-temperaturesInOrder (Slope full) plan =
-    rising (map degree (plan .slope .temperatures)) && lastAtMost (map degree (plan .slope .temperatures)) (degree (plan .slope .critical))
+temperaturesInOrder (Slope points full) plan =
+    let ts = map degree (take points (plan .slope .temperatures)) in
+    rising ts && lastAtMost ts (degree (plan .slope .critical))
 temperaturesInOrder Steps plan = falling (plan .steps .bounds)
 
 -- "the duties never fall from FL1 to FL4 (else 7)"; "counts never fall from C1 to C5 (else 7)"
 abbrev pub speedsInOrder : Shape → Plan → Bool
-speedsInOrder (Slope full) plan = neverFalls (plan .slope .duties)
+speedsInOrder (Slope points full) plan = neverFalls (take points (plan .slope .duties))
 speedsInOrder Steps plan = neverFalls (plan .steps .counts)
 
--- the fastest that a speed register can hold: "FFh", the slope's full duty; "00h"
+-- the fastest that a speed register can hold: "FFh", or "the greatest duty its registers hold", the slope's full duty; "00h"
 abbrev pub fullOf : Shape → ℕ
-fullOf (Slope full) = full
+fullOf (Slope points full) = full
 fullOf Steps = 0x00
 
 -- "More duty is faster; a smaller count is faster": a is at least as fast as b
 abbrev pub AsFast : Shape → ℕ → ℕ → Type 0
-AsFast (Slope full) a b = MoreDuty a b
+AsFast (Slope points full) a b = MoreDuty a b
 AsFast Steps a b = LessCount a b
 
 -- the slower of two speeds
 abbrev pub slower : Shape → ℕ → ℕ → ℕ
-slower (Slope full) a b = min a b
+slower (Slope points full) a b = min a b
 slower Steps a b = max a b

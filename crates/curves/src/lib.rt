@@ -7,11 +7,15 @@ mod steps;
 use pages::Shape;
 ghost use Rattle.curves.specs.Contracts.{Asks, OrdersTemperatures, OrdersSpeeds, Raises};
 
-// The values of a slope: T1 to T4, critical, FL1 to FL4. Temperatures are bytes as their registers hold them, in two's complement.
+// No slope has more points.
+pub const MOST_POINTS: usize = 8;
+
+// The values of a slope: a temperature for each point, critical, a duty for each point, and room behind them where there are fewer points than eight.
+// Temperatures are bytes as their registers hold them, in two's complement.
 pub struct SlopeValues {
-    pub temperatures: [u8; 4],
+    pub temperatures: [u8; MOST_POINTS],
     pub critical: u8,
-    pub duties: [u8; 4],
+    pub duties: [u8; MOST_POINTS],
 }
 
 // The values of steps: B1 to B4, C1 to C5. Temperatures are unsigned.
@@ -20,19 +24,20 @@ pub struct StepValues {
     pub counts: [u16; 5],
 }
 
-// A plan has room for the values of either shape.
+// A plan has room for the values of either shape, and for the number of points that a record with the mark 43h 51h carries.
 pub struct Plan {
     pub chip: u8,
     pub table: u8,
+    pub points: u8,
     pub slope: SlopeValues,
     pub steps: StepValues,
 }
 
 // "those of the other chip are zero in what is read"
 pub const NO_SLOPE: SlopeValues = SlopeValues {
-    temperatures: [0; 4],
+    temperatures: [0; MOST_POINTS],
     critical: 0,
-    duties: [0; 4],
+    duties: [0; MOST_POINTS],
 };
 
 pub const NO_STEPS: StepValues = StepValues {
@@ -45,11 +50,11 @@ pub fn speed_of(shape: Shape, plan: Plan, t: u8) -> u16
     ensures { λ r. ⌜ Asks shape plan t r ⌝ }
 {
     match shape {
-        Shape::Slope(full) => {
+        Shape::Slope(points, full) => {
             let values = plan.slope;
             let temperatures = values.temperatures;
             let duties = values.duties;
-            slope::asked_duty(full, temperatures, values.critical, duties, t) as u16
+            slope::asked_duty(points, full, temperatures, values.critical, duties, t) as u16
         }
         Shape::Steps => {
             let values = plan.steps;
@@ -65,10 +70,10 @@ pub fn temperatures_in_order(shape: Shape, plan: Plan) -> bool
     ensures { λ r. ⌜ OrdersTemperatures shape plan r ⌝ }
 {
     match shape {
-        Shape::Slope(_) => {
+        Shape::Slope(points, _) => {
             let values = plan.slope;
             let temperatures = values.temperatures;
-            orders::rising_to_critical(temperatures, values.critical)
+            orders::rising_to_critical(points, temperatures, values.critical)
         }
         Shape::Steps => {
             let values = plan.steps;
@@ -83,10 +88,10 @@ pub fn speeds_in_order(shape: Shape, plan: Plan) -> bool
     ensures { λ r. ⌜ OrdersSpeeds shape plan r ⌝ }
 {
     match shape {
-        Shape::Slope(_) => {
+        Shape::Slope(points, _) => {
             let values = plan.slope;
             let duties = values.duties;
-            orders::duties_never_fall(duties)
+            orders::duties_never_fall(points, duties)
         }
         Shape::Steps => {
             let values = plan.steps;
@@ -101,7 +106,7 @@ pub fn full_of(shape: Shape) -> u8
     ensures { λ r. ⌜ Raises shape r ⌝ }
 {
     match shape {
-        Shape::Slope(full) => full,
+        Shape::Slope(_, full) => full,
         Shape::Steps => 0x00,
     }
 }

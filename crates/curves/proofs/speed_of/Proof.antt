@@ -28,7 +28,11 @@ returns c =
     let s = k .before .before in
     let plan = s .args .plan in
     rw (k .shape .given .1)
-    (record { answer = c .asked-duty .ensures ∙ planned-duty (k .shape .given .0 .0) plan (s .args .t) (plan-typed plan _ (s .good .1 .0) .sized) })
+    (record {
+      answer =
+          c .asked-duty .ensures
+          ∙ planned-duty (k .shape .given .0 .0) (k .shape .given .0 .1 .0) plan (s .args .t) (plan-typed plan _ (s .good .1 .0) .sized);
+    })
 
 returns-2 : tie.Need-returns-2
 returns-2 c =
