@@ -1,60 +1,80 @@
 -- A plan that comes out of a body names its chip and its table and has its arrays' lengths; a body and the plan in its bytes undo each other.
 -- Assumes nothing.
 use Prim.Native.Nat.{ℕ, zero, suc, _+_, _≤_, _<_}
+use native.Mathlib.Numerals.{add-one}
 use native.Mathlib.Omega.{arith}
 use mathlib.Core.Path.{_≡_, refl, sym, ap, ap₂, _∙_}
-use mathlib.Core.Bool.{Bool, true, false}
-use mathlib.Core.List.{List, [], _∷_, _++_}
-use lib.ListN.{length, getD, take, length-append}
-use lib.Seq.{length-take-le, getD-take, ext-getD}
+use mathlib.Core.Bool.{Bool, true, false, cond, _&&_}
+use mathlib.Core.List.{List, [], _∷_, _++_, map, append-assoc}
+use borrow.Author.Tests.{ltb-true, lt-ltb}
+use lib.Dec.{ltb}
+use lib.ListN.{length, getD, take, drop, length-append, length-drop, List·getD-append}
+use lib.Seq.{length-take-le, getD-take, getD-drop, getD-at, getD-append-add, take-suc, take-add, ext-getD}
 use Rattle.pages.specs.declared.Shape.{Shape}
 use Rattle.pages.specs.declared.Shape.the-variants.{Slope, Steps}
 use Rattle.pages.specs.Rows.{from, column}
-use Rattle.pages.specs.Sheets.{room}
-use Rattle.pages.proofs.Columns.{column-length, column-at}
+use Rattle.pages.specs.Sheets.{mostPoints, room}
+use Rattle.pages.proofs.Columns.{column-length, column-at, column-same}
 use Rattle.curves.specs.declared.SlopeValues.{SlopeValues}
 use Rattle.curves.specs.declared.StepValues.{StepValues}
 use Rattle.curves.specs.declared.Plan.{Plan}
-use Rattle.curves.specs.Curves.{halves, words}
+use Rattle.curves.specs.Curves.{degree, halves, words}
+use Rattle.curves.specs.Orders.{rising, neverFalls, lastAtMost}
 use Rattle.curves.specs.Planned.{planned, valuesAt, temperaturesInOrder, speedsInOrder}
 use Rattle.curves.specs.Values.{noSlope, noSteps, Sized}
 use Rattle.curves.proofs.StepLaws.{halves-length, words-halves, halves-words}
 use Rattle.curves.proofs.Registers.{spelled, in-a-row}
-use Rattle.curves.proofs.Filled.{planned-sized}
-use Rattle.bodies.specs.Bodies.{body, bodyOf, slopeIn, stepsIn, decoded, ownOf}
+use Rattle.curves.proofs.Filled.{Roomy, planned-sized}
+use Rattle.bodies.specs.Bodies.{body, slopeBody, bodyOf, pointAt, pointsIn, slopeIn, stepsIn, decoded, ownSlope, ownOf}
 
-pub decoded-chip : (leading : Bool) (shape : Shape) (chip table : ℕ) (bytes : List ℕ) → decoded leading shape chip table bytes .chip ≡ chip
-decoded-chip leading (Slope full) chip table bytes = refl
-decoded-chip leading Steps chip table bytes = refl
+pub decoded-chip : (leading : Bool) (shape : Shape) (chip table points : ℕ) (bytes : List ℕ) → decoded leading shape chip table points bytes .chip ≡ chip
+decoded-chip leading (Slope count full) chip table points bytes = refl
+decoded-chip leading Steps chip table points bytes = refl
 
-pub decoded-table : (leading : Bool) (shape : Shape) (chip table : ℕ) (bytes : List ℕ) → decoded leading shape chip table bytes .table ≡ table
-decoded-table leading (Slope full) chip table bytes = refl
-decoded-table leading Steps chip table bytes = refl
+pub decoded-table : (leading : Bool) (shape : Shape) (chip table points : ℕ) (bytes : List ℕ)
+    → decoded leading shape chip table points bytes .table ≡ table
+decoded-table leading (Slope count full) chip table points bytes = refl
+decoded-table leading Steps chip table points bytes = refl
+
+pub decoded-points : (leading : Bool) (shape : Shape) (chip table points : ℕ) (bytes : List ℕ)
+    → decoded leading shape chip table points bytes .points ≡ points
+decoded-points leading (Slope count full) chip table points bytes = refl
+decoded-points leading Steps chip table points bytes = refl
 
 -- however short the body is
-pub decoded-sized : (leading : Bool) (shape : Shape) (chip table : ℕ) (bytes : List ℕ) → Sized (decoded leading shape chip table bytes)
+pub decoded-sized : (leading : Bool) (shape : Shape) (chip table points : ℕ) (bytes : List ℕ) → Sized (decoded leading shape chip table points bytes)
 unfolding words
-decoded-sized true (Slope full) chip table bytes = record { temperatures = refl; duties = refl; bounds = refl; counts = refl }
-decoded-sized false (Slope full) chip table bytes = record { temperatures = refl; duties = refl; bounds = refl; counts = refl }
-decoded-sized leading Steps chip table bytes = record { temperatures = refl; duties = refl; bounds = refl; counts = refl }
+decoded-sized leading (Slope count full) chip table points bytes =
+    record { temperatures = column-length mostPoints _; duties = column-length mostPoints _; bounds = refl; counts = refl }
+decoded-sized leading Steps chip table points bytes = record { temperatures = refl; duties = refl; bounds = refl; counts = refl }
 
--- steps have no critical that could lead
-pub steps-body : (leading : Bool) (plan : Plan) → bodyOf leading Steps plan ≡ body (planned Steps plan)
-steps-body true plan = refl
-steps-body false plan = refl
+-- where critical does not lead, a body is in register order; steps have no critical that could lead
+pub plain-body : (shape : Shape) (plan : Plan) → bodyOf false shape plan ≡ body (planned shape plan)
+plain-body (Slope points full) plan = refl
+plain-body Steps plan = refl
 
 -- "9 bytes for chip 1, 14 for chip 2"
-table-length : (shape : Shape) (plan : Plan) → Sized plan → length (body (planned shape plan)) ≡ room shape .0 + room shape .1
-table-length shape plan sized =
-    let curve = planned shape plan in
-    let filled = planned-sized shape plan sized in
-    length-append (curve .settings) (curve .speeds) ∙ ap₂ (λ (m n : ℕ). m + n) (filled .0) (filled .1)
+pub settings-length : (leading : Bool) (critical : ℕ) (ts : List ℕ) → length (cond leading (critical ∷ ts) (ts ++ (critical ∷ []))) ≡ length ts + 1
+settings-length true critical ts = sym (add-one (length ts))
+settings-length false critical ts = length-append ts (critical ∷ [])
 
-pub body-length : (leading : Bool) (shape : Shape) (plan : Plan) → Sized plan → length (bodyOf leading shape plan) ≡ room shape .0 + room shape .1
-body-length true (Slope full) plan sized =
-    omega (arith, length-append (plan .slope .temperatures) (plan .slope .duties), sized .temperatures, sized .duties)
-body-length true Steps plan sized = table-length Steps plan sized
-body-length false shape plan sized = table-length shape plan sized
+pub body-length : (leading : Bool) (shape : Shape) (plan : Plan) → Sized plan → Roomy shape
+    → length (bodyOf leading shape plan) ≡ room shape .0 + room shape .1
+body-length leading (Slope points full) plan sized p =
+    let ts = take points (plan .slope .temperatures) in
+    let ds = take points (plan .slope .duties) in
+    let settings = cond leading (plan .slope .critical ∷ ts) (ts ++ (plan .slope .critical ∷ [])) in
+    omega (
+      arith,
+      length-append settings ds,
+      settings-length leading (plan .slope .critical) ts,
+      length-take-le points (plan .slope .temperatures) (omega (arith, sized .temperatures, p)),
+      length-take-le points (plan .slope .duties) (omega (arith, sized .duties, p)),
+    )
+body-length leading Steps plan sized p =
+    let curve = planned Steps plan in
+    let filled = planned-sized Steps plan sized p in
+    length-append (curve .settings) (curve .speeds) ∙ ap₂ (λ (m n : ℕ). m + n) (filled .0) (filled .1)
 
 -- values that are laid out stand in front of their column
 pub column-begins : (values : List ℕ) (n : ℕ) → length values ≤ n → take (length values) (column n (λ k. getD values k 0)) ≡ values
@@ -66,24 +86,52 @@ column-begins values n h =
     let within : k < length values = omega (arith, long) in
     getD-take (length values) bytes k 0 within ∙ column-at n (λ j. getD values j 0) k (omega arith))
 
--- values that are laid out come back, whatever stands behind them
-pub slope-back : (values : SlopeValues) (rest : List ℕ) → length (values .temperatures) ≡ 4 → length (values .duties) ≡ 4
-    → slopeIn false (((values .temperatures ++ (values .critical ∷ [])) ++ values .duties) ++ rest) ≡ values
-slope-back values rest t d =
-    let undone : List ℕ → List ℕ → SlopeValues = λ ts ds. slopeIn false (((ts ++ (values .critical ∷ [])) ++ ds) ++ rest) in
-    let of : List ℕ → List ℕ → SlopeValues = λ ts ds. record { temperatures = ts; critical = values .critical; duties = ds } in
-    let ts = spelled (values .temperatures) 4 t in
-    let ds = spelled (values .duties) 4 d in
-    sym (ap₂ undone ts ds) ∙ ap₂ of ts ds
+-- a value for each point that is laid out behind others comes back, whatever stands behind it
+points-back : (n first : ℕ) (front values rest : List ℕ) → length front ≡ first → n ≤ length values
+    → pointsIn n first (front ++ (take n values ++ rest)) ≡ pointsIn n 0 values
+points-back n first front values rest e h =
+    column-same mostPoints (pointAt n first (front ++ (take n values ++ rest))) (pointAt n 0 values) (λ k l. by-place k (ltb k n) refl)
+  where
+    by-place : (k : ℕ) (there : Bool) → ltb k n ≡ there → pointAt n first (front ++ (take n values ++ rest)) k ≡ pointAt n 0 values k
+    by-place k true t =
+        let low = ltb-true k n t in
+        let long = length-take-le n values h in
+        let zeroth : 0 + k ≡ k = omega arith in
+        rw (t, zeroth)
+        (ap (λ (f : ℕ). getD (front ++ (take n values ++ rest)) (f + k) 0) (sym e)
+        ∙ getD-append-add front (take n values ++ rest) k 0
+        ∙ List·getD-append (take n values) rest 0 k (omega (arith, long, low))
+        ∙ getD-take n values k 0 low)
+    by-place k false t = rw t
 
-pub leading-back : (values : SlopeValues) (rest : List ℕ) → length (values .temperatures) ≡ 4 → length (values .duties) ≡ 4
-    → slopeIn true ((values .critical ∷ (values .temperatures ++ values .duties)) ++ rest) ≡ values
-leading-back values rest t d =
-    let undone : List ℕ → List ℕ → SlopeValues = λ ts ds. slopeIn true ((values .critical ∷ (ts ++ ds)) ++ rest) in
-    let of : List ℕ → List ℕ → SlopeValues = λ ts ds. record { temperatures = ts; critical = values .critical; duties = ds } in
-    let ts = spelled (values .temperatures) 4 t in
-    let ds = spelled (values .duties) 4 d in
-    sym (ap₂ undone ts ds) ∙ ap₂ of ts ds
+pub slope-back : (leading : Bool) (n : ℕ) (values : SlopeValues) (rest : List ℕ) → n ≤ length (values .temperatures) → n ≤ length (values .duties)
+    → slopeIn leading n (slopeBody leading n (values .temperatures) (values .critical) (values .duties) ++ rest) ≡ ownSlope n values
+slope-back true n values rest t d =
+    let c = values .critical in
+    let ts = take n (values .temperatures) in
+    let ds = take n (values .duties) in
+    let long = length-take-le n (values .temperatures) t in
+    let temperatures : pointsIn n 1 (c ∷ ((ts ++ ds) ++ rest)) ≡ pointsIn n 0 (values .temperatures) =
+        ap (λ (l : List ℕ). pointsIn n 1 (c ∷ l)) (append-assoc ts ds rest) ∙ points-back n 1 (c ∷ []) (values .temperatures) (ds ++ rest) refl t in
+    let duties : pointsIn n (n + 1) (c ∷ ((ts ++ ds) ++ rest)) ≡ pointsIn n 0 (values .duties) =
+        ap (λ (l : List ℕ). pointsIn n (n + 1) (c ∷ l)) (append-assoc ts ds rest)
+        ∙ points-back n (n + 1) (c ∷ ts) (values .duties) rest (omega (arith, long)) d in
+    λ i. record { temperatures = temperatures i; critical = c; duties = duties i }
+slope-back false n values rest t d =
+    let c = values .critical in
+    let ts = take n (values .temperatures) in
+    let ds = take n (values .duties) in
+    let long = length-take-le n (values .temperatures) t in
+    let front = ts ++ (c ∷ []) in
+    let bytes = (front ++ ds) ++ rest in
+    let spread : bytes ≡ front ++ (ds ++ rest) = append-assoc front ds rest in
+    let apart : bytes ≡ ts ++ (c ∷ (ds ++ rest)) = spread ∙ append-assoc ts (c ∷ []) (ds ++ rest) in
+    let temperatures : pointsIn n 0 bytes ≡ pointsIn n 0 (values .temperatures) =
+        ap (pointsIn n 0) apart ∙ points-back n 0 [] (values .temperatures) (c ∷ (ds ++ rest)) refl t in
+    let critical : getD bytes n 0 ≡ c = ap (λ (l : List ℕ). getD l n 0) apart ∙ getD-at ts c (ds ++ rest) 0 n long in
+    let duties : pointsIn n (n + 1) bytes ≡ pointsIn n 0 (values .duties) =
+        ap (pointsIn n (n + 1)) spread ∙ points-back n (n + 1) front (values .duties) rest (omega (arith, length-append ts (c ∷ []), long)) d in
+    λ i. record { temperatures = temperatures i; critical = critical i; duties = duties i }
 
 pub steps-back : (values : StepValues) (rest : List ℕ) → length (values .bounds) ≡ 4 → length (values .counts) ≡ 5
     → stepsIn ((values .bounds ++ halves (values .counts)) ++ rest) ≡ values
@@ -94,88 +142,98 @@ steps-back values rest b c =
     let hs = spelled (halves (values .counts)) 10 (omega (arith, halves-length (values .counts), c)) in
     sym (ap₂ undone bs hs) ∙ ap₂ (λ (l h : List ℕ). of l (words h)) bs hs ∙ ap (of (values .bounds)) (words-halves (values .counts))
 
-steps-body-back : (plan : Plan) (rest : List ℕ) → Sized plan
-    → decoded false Steps (plan .chip) (plan .table) (body (planned Steps plan) ++ rest) ≡ ownOf Steps plan
-steps-body-back plan rest sized =
-    let values = steps-back (plan .steps) rest (sized .bounds) (sized .counts) in
-    λ i. record { chip = plan .chip; table = plan .table; slope = noSlope; steps = values i }
-
 -- a plan's body is decoded to the plan
-pub body-back : (leading : Bool) (shape : Shape) (plan : Plan) (rest : List ℕ) → Sized plan
-    → decoded leading shape (plan .chip) (plan .table) (bodyOf leading shape plan ++ rest) ≡ ownOf shape plan
-body-back true (Slope full) plan rest sized =
-    let values = leading-back (plan .slope) rest (sized .temperatures) (sized .duties) in
-    λ i. record { chip = plan .chip; table = plan .table; slope = values i; steps = noSteps }
-body-back false (Slope full) plan rest sized =
-    let values = slope-back (plan .slope) rest (sized .temperatures) (sized .duties) in
-    λ i. record { chip = plan .chip; table = plan .table; slope = values i; steps = noSteps }
-body-back true Steps plan rest sized = steps-body-back plan rest sized
-body-back false Steps plan rest sized = steps-body-back plan rest sized
+pub body-back : (leading : Bool) (shape : Shape) (points : ℕ) (plan : Plan) (rest : List ℕ) → Sized plan → Roomy shape
+    → decoded leading shape (plan .chip) (plan .table) points (bodyOf leading shape plan ++ rest) ≡ ownOf shape points plan
+body-back leading (Slope count full) points plan rest sized p =
+    let values =
+        slope-back leading count (plan .slope) rest (omega (arith, sized .temperatures, p)) (omega (arith, sized .duties, p)) in
+    λ i. record { chip = plan .chip; table = plan .table; points = points; slope = values i; steps = noSteps }
+body-back leading Steps points plan rest sized p =
+    let values = steps-back (plan .steps) rest (sized .bounds) (sized .counts) in
+    λ i. record { chip = plan .chip; table = plan .table; points = points; slope = noSlope; steps = values i }
+
+-- the values of all points, from a place of a body on, are the bytes there
+points-taken : (n first : ℕ) (bytes : List ℕ) → n ≤ mostPoints → first + n ≤ length bytes → take n (pointsIn n first bytes) ≡ take n (drop first bytes)
+points-taken n first bytes p h =
+    let long = length-take-le n (pointsIn n first bytes) (omega (arith, column-length mostPoints (pointAt n first bytes), p)) in
+    let there = length-take-le n (drop first bytes) (omega (arith, length-drop first bytes, h)) in
+    ext-getD 0 (take n (pointsIn n first bytes)) (take n (drop first bytes)) (long ∙ sym there)
+    (λ k l.
+    let low : k < n = omega (arith, long) in
+    getD-take n (pointsIn n first bytes) k 0 low
+    ∙ column-at mostPoints (pointAt n first bytes) k (omega (arith, p))
+    ∙ ap (λ (b : Bool). cond b (getD bytes (first + k) 0) 0) (lt-ltb k n low)
+    ∙ sym (getD-take n (drop first bytes) k 0 low ∙ getD-drop first bytes k 0))
 
 -- a whole body is the body of the plan in it, whatever stands behind it
-steps-encode : (chip table : ℕ) (bytes : List ℕ) → 14 ≤ length bytes → ((k : ℕ) → getD bytes k 0 < 256)
-    → body (planned Steps (decoded false Steps chip table bytes)) ≡ take 14 bytes
-steps-encode chip table bytes h byte =
+settings-encode : (leading : Bool) (n : ℕ) (bytes : List ℕ) → n < length bytes
+    → cond leading (getD bytes 0 0 ∷ take n (drop 1 bytes)) (take n bytes ++ (getD bytes n 0 ∷ [])) ≡ take (suc n) bytes
+settings-encode true n [] h = absurd (omega arith)
+settings-encode true n (b ∷ bytes) h = refl
+settings-encode false n bytes h = sym (take-suc bytes n 0 h)
+
+slope-encode : (leading : Bool) (n : ℕ) (bytes : List ℕ) → n ≤ mostPoints → n + 1 + n ≤ length bytes
+    → slopeBody leading n (slopeIn leading n bytes .temperatures) (slopeIn leading n bytes .critical) (slopeIn leading n bytes .duties)
+    ≡ take (n + 1 + n) bytes
+slope-encode leading n bytes p h =
+    let one = add-one n in
+    let duties = points-taken n (n + 1) bytes p h in
+    ap₂ (λ (settings ds : List ℕ). settings ++ ds) (by-lead leading) duties
+    ∙ sym (take-add (n + 1) n bytes)
+  where
+    by-lead : (lead : Bool)
+        → cond lead (getD bytes (cond lead 0 n) 0 ∷ take n (pointsIn n (cond lead 1 0) bytes))
+        (take n (pointsIn n (cond lead 1 0) bytes) ++ (getD bytes (cond lead 0 n) 0 ∷ []))
+        ≡ take (n + 1) bytes
+    by-lead true =
+        ap (λ (ts : List ℕ). getD bytes 0 0 ∷ ts) (points-taken n 1 bytes p (omega arith))
+        ∙ settings-encode true n bytes (omega arith) ∙ ap (λ (k : ℕ). take k bytes) (sym (add-one n))
+    by-lead false =
+        ap (λ (ts : List ℕ). ts ++ (getD bytes n 0 ∷ [])) (points-taken n 0 bytes p (omega arith))
+        ∙ settings-encode false n bytes (omega arith) ∙ ap (λ (k : ℕ). take k bytes) (sym (add-one n))
+
+pub encode-decode : (leading : Bool) (shape : Shape) (chip table points : ℕ) (bytes : List ℕ) → Roomy shape
+    → room shape .0 + room shape .1 ≤ length bytes → ((k : ℕ) → getD bytes k 0 < 256)
+    → bodyOf leading shape (decoded leading shape chip table points bytes) ≡ take (room shape .0 + room shape .1) bytes
+encode-decode leading (Slope count full) chip table points bytes p h byte = slope-encode leading count bytes p h
+encode-decode leading Steps chip table points bytes p h byte =
     ap (λ (l : List ℕ). valuesAt bytes (from 0 4) ++ l)
     (halves-words (valuesAt bytes (from 4 10)) (byte 5, (byte 7, (byte 9, (byte 11, (byte 13, tt))))))
     ∙ in-a-row bytes 0 14 h
 
-pub encode-decode : (leading : Bool) (shape : Shape) (chip table : ℕ) (bytes : List ℕ) → room shape .0 + room shape .1 ≤ length bytes
-    → ((k : ℕ) → getD bytes k 0 < 256)
-    → bodyOf leading shape (decoded leading shape chip table bytes) ≡ take (room shape .0 + room shape .1) bytes
-encode-decode true (Slope full) chip table bytes h byte = in-a-row bytes 0 9 h
-encode-decode false (Slope full) chip table bytes h byte = in-a-row bytes 0 9 h
-encode-decode true Steps chip table bytes h byte = steps-encode chip table bytes h byte
-encode-decode false Steps chip table bytes h byte = steps-encode chip table bytes h byte
-
 -- what comes back of a plan names its chip and its table, has its curve and is in order as it is
-pub own-chip : (shape : Shape) (plan : Plan) → ownOf shape plan .chip ≡ plan .chip
-own-chip (Slope full) plan = refl
-own-chip Steps plan = refl
+pub own-chip : (shape : Shape) (points : ℕ) (plan : Plan) → ownOf shape points plan .chip ≡ plan .chip
+own-chip (Slope count full) points plan = refl
+own-chip Steps points plan = refl
 
-pub own-table : (shape : Shape) (plan : Plan) → ownOf shape plan .table ≡ plan .table
-own-table (Slope full) plan = refl
-own-table Steps plan = refl
+pub own-table : (shape : Shape) (points : ℕ) (plan : Plan) → ownOf shape points plan .table ≡ plan .table
+own-table (Slope count full) points plan = refl
+own-table Steps points plan = refl
 
-pub own-curve : (shape : Shape) (plan : Plan) → planned shape (ownOf shape plan) ≡ planned shape plan
-own-curve (Slope full) plan = refl
-own-curve Steps plan = refl
+pub own-points : (shape : Shape) (points : ℕ) (plan : Plan) → ownOf shape points plan .points ≡ points
+own-points (Slope count full) points plan = refl
+own-points Steps points plan = refl
 
-pub own-temperatures : (shape : Shape) (plan : Plan) → temperaturesInOrder shape (ownOf shape plan) ≡ temperaturesInOrder shape plan
-own-temperatures (Slope full) plan = refl
-own-temperatures Steps plan = refl
+-- the values of its points are those of the plan
+own-taken : (count : ℕ) (values : List ℕ) → length values ≡ mostPoints → count ≤ mostPoints → take count (pointsIn count 0 values) ≡ take count values
+own-taken count values long p = points-taken count 0 values p (omega (arith, long, p))
 
-pub own-speeds : (shape : Shape) (plan : Plan) → speedsInOrder shape (ownOf shape plan) ≡ speedsInOrder shape plan
-own-speeds (Slope full) plan = refl
-own-speeds Steps plan = refl
+pub own-curve : (shape : Shape) (points : ℕ) (plan : Plan) → Sized plan → Roomy shape → planned shape (ownOf shape points plan) ≡ planned shape plan
+own-curve (Slope count full) points plan sized p =
+    let temperatures = own-taken count (plan .slope .temperatures) (sized .temperatures) p in
+    let duties = own-taken count (plan .slope .duties) (sized .duties) p in
+    λ i. record { settings = temperatures i ++ (plan .slope .critical ∷ []); speeds = duties i }
+own-curve Steps points plan sized p = refl
 
--- a column that holds a body's bytes as far as the shape takes them decodes as they do
-module _ (bytes : List ℕ) (f : ℕ → ℕ) where
-  in-front : (first n : ℕ) → first + n ≤ 14 → ((k : ℕ) → k < first + n → f k ≡ getD bytes k 0)
-      → valuesAt (column 14 f) (from first n) ≡ valuesAt bytes (from first n)
-  in-front first zero h e = refl
-  in-front first (suc n) h e =
-      ap₂ (λ (b : ℕ) (l : List ℕ). b ∷ l) (column-at 14 f first (omega arith) ∙ e first (omega arith))
-      (in-front (suc first) n (omega arith) (λ k l. e k (omega arith)))
+pub own-temperatures : (shape : Shape) (points : ℕ) (plan : Plan) → Sized plan → Roomy shape
+    → temperaturesInOrder shape (ownOf shape points plan) ≡ temperaturesInOrder shape plan
+own-temperatures (Slope count full) points plan sized p =
+    ap (λ (ts : List ℕ). rising (map degree ts) && lastAtMost (map degree ts) (degree (plan .slope .critical)))
+    (own-taken count (plan .slope .temperatures) (sized .temperatures) p)
+own-temperatures Steps points plan sized p = refl
 
-  slope-front : (leading : Bool) → ((k : ℕ) → k < 9 → f k ≡ getD bytes k 0) → slopeIn leading (column 14 f) ≡ slopeIn leading bytes
-  slope-front true e =
-      let temperatures = in-front 1 4 (omega arith) (λ k l. e k (omega arith)) in
-      let critical = column-at 14 f 0 (omega arith) ∙ e 0 (omega arith) in
-      let duties = in-front 5 4 (omega arith) (λ k l. e k (omega arith)) in
-      λ i. record { temperatures = temperatures i; critical = critical i; duties = duties i }
-  slope-front false e =
-      let temperatures = in-front 0 4 (omega arith) (λ k l. e k (omega arith)) in
-      let critical = column-at 14 f 4 (omega arith) ∙ e 4 (omega arith) in
-      let duties = in-front 5 4 (omega arith) (λ k l. e k (omega arith)) in
-      λ i. record { temperatures = temperatures i; critical = critical i; duties = duties i }
-
-  pub decoded-front : (leading : Bool) (shape : Shape) (chip table : ℕ) → ((k : ℕ) → k < room shape .0 + room shape .1 → f k ≡ getD bytes k 0)
-      → decoded leading shape chip table (column 14 f) ≡ decoded leading shape chip table bytes
-  decoded-front leading (Slope full) chip table e =
-      let values = slope-front leading (λ k l. e k (omega arith)) in
-      λ i. record { chip = chip; table = table; slope = values i; steps = noSteps }
-  decoded-front leading Steps chip table e =
-      let bounds = in-front 0 4 (omega arith) (λ k l. e k (omega arith)) in
-      let counts = in-front 4 10 (omega arith) (λ k l. e k (omega arith)) in
-      λ i. record { chip = chip; table = table; slope = noSlope; steps = record { bounds = bounds i; counts = words (counts i) } }
+pub own-speeds : (shape : Shape) (points : ℕ) (plan : Plan) → Sized plan → Roomy shape
+    → speedsInOrder shape (ownOf shape points plan) ≡ speedsInOrder shape plan
+own-speeds (Slope count full) points plan sized p = ap neverFalls (own-taken count (plan .slope .duties) (sized .duties) p)
+own-speeds Steps points plan sized p = refl

@@ -8,8 +8,8 @@ use Rattle.pages.specs.declared.Shape.{Shape}
 use Rattle.curves.specs.declared.Plan.{Plan}
 use Rattle.bodies.specs.Contracts.{Decodes, EncodesBody}
 
-pub decodes-unique : {leading : Bool} {shape : Shape} {chip table : ℕ} {bytes : List ℕ} {r s : Plan}
-    → Decodes leading shape chip table bytes r → Decodes leading shape chip table bytes s → r ≡ s
+pub decodes-unique : {leading : Bool} {shape : Shape} {chip table points : ℕ} {bytes : List ℕ} {r s : Plan}
+    → Decodes leading shape chip table points bytes r → Decodes leading shape chip table points bytes s → r ≡ s
 decodes-unique p q = p .answer ∙ sym (q .answer)
 
 pub encodes-unique : {leading : Bool} {shape : Shape} {plan : Plan} {r s : List ℕ} → EncodesBody leading shape plan r → EncodesBody leading shape plan s

@@ -1,65 +1,101 @@
-// The values of a body's bytes.
-use crate::LONGEST;
+// The values of a body's bytes. What a short body lacks counts as 0.
+use curves::MOST_POINTS;
 use curves::SlopeValues;
 use curves::StepValues;
 ghost use mathlib.Core.Path.{_≡_};
 ghost use Prim.Native.Nat.{_+_, _*_, _≤_};
+ghost use lib.ListN.{getD};
 ghost use Rattle.pages.specs.Rows.{from};
 ghost use Rattle.curves.specs.Curves.{words};
 ghost use Rattle.curves.specs.Planned.{valuesAt};
-ghost use Rattle.bodies.specs.Bodies.{slopeIn, stepsIn};
+ghost use Rattle.bodies.specs.Bodies.{pointAt, pointsIn, slopeIn, stepsIn};
 
-fn four_at(body: [u8; LONGEST], at: usize) -> [u8; 4]
-    requires { ⌜ at ≤ 5 ⌝ }
-    ensures { λ r. ⌜ r ≡ valuesAt body (from at 4) ⌝ }
+fn byte_at(body: &[u8], at: usize) -> u8
+    ensures { λ r. ⌜ r ≡ getD (now (body .entry)) at 0 ⌝ }
 {
-    [body[at], body[at + 1], body[at + 2], body[at + 3]]
+    if at < body.len() { body[at] } else { 0 }
+}
+
+// The value of the k-th point, where the first one's stands at a place, and 0 behind the last point.
+fn point_at(points: usize, first: usize, body: &[u8], k: usize) -> u8
+    requires { ⌜ first + k ≤ 512 ⌝ }
+    ensures { λ r. ⌜ r ≡ pointAt points first (now (body .entry)) k ⌝ }
+{
+    if k < points {
+        return byte_at(body, first + k);
+    }
+    0
+}
+
+fn points_in(points: usize, first: usize, body: &[u8]) -> [u8; MOST_POINTS]
+    requires { ⌜ first ≤ 256 ⌝ }
+    ensures { λ r. ⌜ r ≡ pointsIn points first (now (body .entry)) ⌝ }
+{
+    let mut values = [0u8; MOST_POINTS];
+    for k in 0..MOST_POINTS {
+        values[k] = point_at(points, first, body, k);
+    }
+    values
 }
 
 // "high byte first"
-fn word(high: u8, low: u8) -> u16
-    ensures { λ r. ⌜ r ≡ high * 256 + low ⌝ }
+fn word_at(body: &[u8], at: usize) -> u16
+    requires { ⌜ at ≤ 256 ⌝ }
+    ensures { λ r. ⌜ r ≡ getD (now (body .entry)) at 0 * 256 + getD (now (body .entry)) (at + 1) 0 ⌝ }
 {
-    high as u16 * 256 + low as u16
+    byte_at(body, at) as u16 * 256 + byte_at(body, at + 1) as u16
 }
 
-// C1 to C5 stand behind B1 to B4.
-fn counts_in(body: [u8; LONGEST]) -> [u16; 5]
-    ensures { λ r. ⌜ r ≡ words (valuesAt body (from 4 10)) ⌝ }
+// B1 to B4 lead.
+fn bounds_in(body: &[u8]) -> [u8; 4]
+    ensures { λ r. ⌜ r ≡ valuesAt (now (body .entry)) (from 0 4) ⌝ }
 {
     [
-        word(body[4], body[5]),
-        word(body[6], body[7]),
-        word(body[8], body[9]),
-        word(body[10], body[11]),
-        word(body[12], body[13]),
+        byte_at(body, 0),
+        byte_at(body, 1),
+        byte_at(body, 2),
+        byte_at(body, 3),
     ]
 }
 
-// T1 to T4, critical, FL1 to FL4; or critical first.
-pub(crate) fn slope_in(leading: bool, body: [u8; LONGEST]) -> SlopeValues
-    ensures { λ r. ⌜ r ≡ slopeIn leading body ⌝ }
+// C1 to C5 stand behind B1 to B4.
+fn counts_in(body: &[u8]) -> [u16; 5]
+    ensures { λ r. ⌜ r ≡ words (valuesAt (now (body .entry)) (from 4 10)) ⌝ }
 {
+    [
+        word_at(body, 4),
+        word_at(body, 6),
+        word_at(body, 8),
+        word_at(body, 10),
+        word_at(body, 12),
+    ]
+}
+
+// A temperature for each point, critical, a duty for each point; or critical first.
+pub(crate) fn slope_in(leading: bool, points: u8, body: &[u8]) -> SlopeValues
+    ensures { λ r. ⌜ r ≡ slopeIn leading points (now (body .entry)) ⌝ }
+{
+    let count = points as usize;
     if leading {
         return SlopeValues {
-            temperatures: four_at(body, 1),
-            critical: body[0],
-            duties: four_at(body, 5),
+            temperatures: points_in(count, 1, body),
+            critical: byte_at(body, 0),
+            duties: points_in(count, count + 1, body),
         };
     }
     SlopeValues {
-        temperatures: four_at(body, 0),
-        critical: body[4],
-        duties: four_at(body, 5),
+        temperatures: points_in(count, 0, body),
+        critical: byte_at(body, count),
+        duties: points_in(count, count + 1, body),
     }
 }
 
 // B1 to B4, C1 to C5.
-pub(crate) fn steps_in(body: [u8; LONGEST]) -> StepValues
-    ensures { λ r. ⌜ r ≡ stepsIn body ⌝ }
+pub(crate) fn steps_in(body: &[u8]) -> StepValues
+    ensures { λ r. ⌜ r ≡ stepsIn (now (body .entry)) ⌝ }
 {
     StepValues {
-        bounds: four_at(body, 0),
+        bounds: bounds_in(body),
         counts: counts_in(body),
     }
 }

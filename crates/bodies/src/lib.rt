@@ -1,7 +1,6 @@
 // A plan's body, its values in register order: taken from bytes, and laid out.
 mod decoding;
 mod encoding;
-mod leading;
 
 use curves::NO_SLOPE;
 use curves::NO_STEPS;
@@ -10,22 +9,24 @@ use pages::Shape;
 ghost use Rattle.bodies.specs.Contracts.{Decodes, EncodesBody};
 
 // No body has more bytes.
-pub const LONGEST: usize = 14;
+pub const LONGEST: usize = 17;
 
-// The plan whose curve stands in a body's bytes, by whether critical leads there.
-pub fn plan_of(shape: Shape, leading: bool, chip: u8, table: u8, body: [u8; LONGEST]) -> Plan
-    ensures { λ r. ⌜ Decodes leading shape chip table body r ⌝ }
+// The plan whose curve stands in a body's bytes, by whether critical leads there, with the number of points that its record carries.
+pub fn plan_of(shape: Shape, leading: bool, chip: u8, table: u8, points: u8, body: &[u8]) -> Plan
+    ensures { λ r. ⌜ Decodes leading shape chip table points (now (body .entry)) r ⌝ }
 {
     match shape {
-        Shape::Slope(_) => Plan {
+        Shape::Slope(count, _) => Plan {
             chip,
             table,
-            slope: decoding::slope_in(leading, body),
+            points,
+            slope: decoding::slope_in(leading, count, body),
             steps: NO_STEPS,
         },
         Shape::Steps => Plan {
             chip,
             table,
+            points,
             slope: NO_SLOPE,
             steps: decoding::steps_in(body),
         },
@@ -37,14 +38,11 @@ pub fn body_of(shape: Shape, leading: bool, plan: Plan) -> [u8; LONGEST]
     ensures { λ r. ⌜ EncodesBody leading shape plan r ⌝ }
 {
     match shape {
-        Shape::Slope(_) => {
+        Shape::Slope(points, _) => {
             let values = plan.slope;
             let temperatures = values.temperatures;
             let duties = values.duties;
-            if leading {
-                return leading::slope_bytes(temperatures, values.critical, duties);
-            }
-            encoding::slope_bytes(temperatures, values.critical, duties)
+            encoding::slope_bytes(leading, points, temperatures, values.critical, duties)
         }
         Shape::Steps => {
             let values = plan.steps;

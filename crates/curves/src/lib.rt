@@ -5,7 +5,7 @@ mod slope;
 mod steps;
 
 use pages::Shape;
-ghost use Rattle.curves.specs.Contracts.{Asks, OrdersTemperatures, OrdersSpeeds, Raises};
+ghost use Rattle.curves.specs.Contracts.{Holds, Asks, OrdersTemperatures, OrdersSpeeds, Raises};
 
 // No slope has more points.
 pub const MOST_POINTS: usize = 8;
@@ -44,6 +44,17 @@ pub const NO_STEPS: StepValues = StepValues {
     bounds: [0; 4],
     counts: [0; 5],
 };
+
+// How many points of a slope a plan holds: as many as its shape says, and no more than there is room for.
+pub fn count_of(points: u8) -> usize
+    ensures { λ r. ⌜ Holds points r ⌝ }
+{
+    let count = points as usize;
+    if count < MOST_POINTS {
+        return count;
+    }
+    MOST_POINTS
+}
 
 // The speed that a plan's curve asks at a temperature: a duty or a count.
 pub fn speed_of(shape: Shape, plan: Plan, t: u8) -> u16

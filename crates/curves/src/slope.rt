@@ -1,6 +1,6 @@
 // The duty that a slope asks.
 use crate::MOST_POINTS;
-use crate::degrees::count_of;
+use crate::count_of;
 use crate::degrees::degree_of;
 use crate::degrees::degrees_of;
 ghost use mathlib.Core.Path.{_≡_};

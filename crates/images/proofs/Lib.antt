@@ -1,6 +1,5 @@
 pub mod Digits
 pub mod Masks
-pub mod Filling
 pub mod Admission
 pub mod Laws
 pub mod Landing

@@ -1,4 +1,5 @@
 pub mod Columns
+pub mod Filling
 pub mod Every
 pub mod Carried
 pub mod Pages

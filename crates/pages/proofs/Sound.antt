@@ -92,14 +92,16 @@ separate sheet table =
     && (distinct (positions table) && (leb (length (positions table)) longest && every (reachesAt sheet (table .shape)) (table .speeds)))
 
 -- "a point count from 2 to 8"
-abbrev pub pointed : Shape → Bool
-pointed (Slope points full) = leb 2 points && leb points mostPoints
-pointed Steps = true
+abbrev pub counts : Shape → Bool
+counts (Slope points full) = leb 2 points && leb points mostPoints
+counts Steps = true
+
+abbrev pub pointed : Table → Bool
+pointed table = counts (table .shape)
 
 -- a table is as long as its curve
 abbrev pub sized : Table → Bool
-sized table =
-    pointed (table .shape) && (eqb (length (table .settings)) (room (table .shape) .0) && eqb (length (table .speeds)) (room (table .shape) .1))
+sized table = eqb (length (table .settings)) (room (table .shape) .0) && eqb (length (table .speeds)) (room (table .shape) .1)
 
 -- one kind of curve
 abbrev pub ofShape : Shape → Shape → Bool
@@ -180,6 +182,7 @@ tests sheet =
     ∷ every (λ table. brief (layout (sheet .banks) (sheet .card) table)) (sheet .tables)
     ∷ every ordered (sheet .tables)
     ∷ every (inStretches (sheet .card)) (sheet .tables)
+    ∷ every pointed (sheet .tables)
     ∷ []
 
 unfoldable pub sound : Sheet → Bool
@@ -210,9 +213,11 @@ pub record Sound (sheet : Sheet) : Type 0 where
   pub records : So (every ordered (sheet .tables))
   -- what the ground of a table can say
   pub stretches : So (every (inStretches (sheet .card)) (sheet .tables))
+  -- a plan has room for the points of every table
+  pub points : So (every pointed (sheet .tables))
 
 module _ (sheet : Sheet) (t : So (sound sheet)) where
-  part : (k : ℕ) → k < 17 → So (getD (tests sheet) k true)
+  part : (k : ℕ) → k < 18 → So (getD (tests sheet) k true)
   unfolding sound
   part k h = of-every (λ test. test) (tests sheet) true t k h
 
@@ -236,6 +241,7 @@ module _ (sheet : Sheet) (t : So (sound sheet)) where
         texts = part 14 (omega arith);
         records = part 15 (omega arith);
         stretches = part 16 (omega arith);
+        points = part 17 (omega arith);
       }
 
 -- the only law that goes by the chip

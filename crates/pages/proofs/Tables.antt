@@ -21,10 +21,10 @@ use Rattle.pages.specs.declared.Fan.{Fan}
 use Rattle.pages.specs.declared.Fan.the-variants.{Laid, Nothing}
 use Rattle.pages.specs.Banks.{noBank, selectsFrom}
 use Rattle.pages.specs.Rows.{every, Line, Table, positions, rowIn, withMasks, registerAt, noRegister, from, spreadAll, standsAt}
-use Rattle.pages.specs.Sheets.{longest, mostPoints, mostWrites, Sheet, missing, room, hasTableIn, tableIn, wholeIn, loaded, layout, laidIn, registerIn, stretchOf, groundIn}
+use Rattle.pages.specs.Sheets.{longest, mostWrites, Sheet, missing, room, hasTableIn, tableIn, wholeIn, loaded, layout, laidIn, registerIn, stretchOf, groundIn}
 use Rattle.pages.specs.Cards.{sheetOf, cardOf, banksOf, sizeOf, rowOf, tablesOf, hasTable, tableOf, shapeOf, layoutOf, groundOf}
 use Rattle.pages.proofs.Every.{both, of-every, everywhere, map-at, distinct, apart}
-use Rattle.pages.proofs.Sound.{stands, reaches, reachesAt, separate, pointed, sized, ofShape, both-or-neither, alike, inARow, isStretch, inStretches, brief, Sound, sound-sheet}
+use Rattle.pages.proofs.Sound.{stands, reaches, reachesAt, separate, counts, pointed, sized, ofShape, both-or-neither, alike, inARow, isStretch, inStretches, brief, Sound, sound-sheet}
 
 -- tables have the numbers from 1 on
 numbered : (tables : List Table) (number : ℕ) → So (hasTableIn tables number) → (1 ≤ number) × (number ≤ length tables)
@@ -180,18 +180,19 @@ module _ (sheet : Sheet) (S : Sound sheet) (number : ℕ) (has : So (hasTableIn 
       × (length (tableIn (sheet .tables) number .speeds) ≡ room (tableIn (sheet .tables) number .shape) .1)
   sheet-sized =
       let table = tableIn (sheet .tables) number in
-      let parts = both (eqb (length (table .settings)) (room (table .shape) .0)) _ (both (pointed (table .shape)) _ (of-tables sized (S .sizes)) .1) in (
+      let parts = both (eqb (length (table .settings)) (room (table .shape) .0)) _ (of-tables sized (S .sizes)) in (
         eqb-true (length (table .settings)) (room (table .shape) .0) (parts .0),
         eqb-true (length (table .speeds)) (room (table .shape) .1) (parts .1),
       )
-
-  sheet-pointed : So (pointed (tableIn (sheet .tables) number .shape))
-  sheet-pointed = both (pointed (tableIn (sheet .tables) number .shape)) _ (of-tables sized (S .sizes)) .0
 
 module _ (chip : Chip) (number : ℕ) where
   -- no more registers than the longest body has bytes
   pub table-short : length (positions (tableOf chip number)) ≤ longest
   table-short = sheet-short (sheetOf chip) (sound-sheet chip) number
+
+  -- a slope has no more points than a plan has room for
+  pub table-pointed : So (counts (shapeOf chip number))
+  table-pointed = everywhere pointed (missing ∷ tablesOf chip) missing refl (sound-sheet chip .points) number
 
   -- each is inside the image
   pub table-within : (k : ℕ) → k < length (positions (tableOf chip number)) → getD (positions (tableOf chip number)) k 0 < sizeOf chip
@@ -262,10 +263,6 @@ module _ (chip : Chip) (number : ℕ) (has : So (hasTable chip number)) where
   pub table-sized : (length (tableOf chip number .settings) ≡ room (shapeOf chip number) .0)
       × (length (tableOf chip number .speeds) ≡ room (shapeOf chip number) .1)
   table-sized = sheet-sized (sheetOf chip) (sound-sheet chip) number has
-
-  -- a slope has at most eight points
-  pub table-pointed : So (pointed (shapeOf chip number))
-  table-pointed = sheet-pointed (sheetOf chip) (sound-sheet chip) number has
 
   -- its script is short, and so is its text
   pub table-brief : (35 + 6 * (layoutOf chip number .selects + (layoutOf chip number .speeds + (layoutOf chip number .settings + layoutOf chip number .speeds)))

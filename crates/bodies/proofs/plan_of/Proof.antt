@@ -4,23 +4,26 @@ use borrow.Author.Needs.{needs}
 use Rattle.bodies.proofs.plan_of.Statement.{statement}
 use Rattle.bodies.proofs.plan_of.Tie as tie
 
-enum-told : tie.Need-enum-told
-enum-told c = search needs
+enum-known-shape : tie.Need-enum-known-shape
+enum-known-shape c = search needs
 
 slope-in-requires : tie.Need-slope-in-requires
 slope-in-requires c κs = search needs
 
-enum-told-2 : tie.Need-enum-told-2
-enum-told-2 c = search needs
+-- /work/main/target/rlib/curves.rlib/interface/lang/src/lib.rt:8:65
+enum-told : tie.Need-enum-told
+enum-told c = search needs
 
 steps-in-requires : tie.Need-steps-in-requires
 steps-in-requires c κs = search needs
 
 returns : tie.Need-returns
-returns c = record { answer = rw (c .before .enum-told .given .1, c .slope-in .ensures) }
+returns c = record { answer = rw (c .before .before .shape .given .1, c .slope-in .ensures) }
 
 returns-2 : tie.Need-returns-2
-returns-2 c = record { answer = rw (c .before .enum-told2 .given .1, c .steps-in .ensures) }
+returns-2 c = record { answer = rw (c .before .enum-told .given .1, c .steps-in .ensures) }
 
 pub plan-of-spec : {M : Type 1} → statement M
-plan-of-spec = tie.close (tie.spec enum-told slope-in-requires enum-told-2 steps-in-requires returns returns-2)
+plan-of-spec =
+    tie.close
+    (tie.spec enum-known-shape slope-in-requires enum-told steps-in-requires returns returns-2)

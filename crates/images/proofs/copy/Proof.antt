@@ -1,6 +1,6 @@
 -- `images::copy` meets its contract: the places passed hold the bytes of the working image.
 -- Assumes nothing.
-use Rattle.images.proofs.Filling.{Filled, filled-none, filled-more, filled-all}
+use Rattle.pages.proofs.Filling.{Filled, filled-none, filled-more, filled-all}
 use Rattle.pages.specs.Sheets.{greatest}
 use lib.ListN.{length, getD, take, length-take}
 use lib.Seq.{getD-take}

@@ -7,7 +7,7 @@ use Rattle.pages.specs.Rows.{column}
 use Rattle.pages.specs.Sheets.{greatest}
 use Rattle.pages.specs.Cards.{rowOf}
 use Rattle.pages.proofs.Columns.{column-length, column-at}
-use Rattle.images.proofs.Filling.{Filled, filled-none, filled-more, filled-front}
+use Rattle.pages.proofs.Filling.{Filled, filled-none, filled-more, filled-front}
 use borrow.Author.Needs.{needs}
 use Rattle.images.proofs.power_on_image.Statement.{statement}
 use Rattle.images.proofs.power_on_image.Tie as tie

@@ -5,6 +5,7 @@ use mathlib.Core.Path.{ap₂}
 use mathlib.Core.List.{List, _++_}
 use lib.ListN.{getD}
 use Rattle.pages.specs.Rows.{column}
+use Rattle.pages.specs.Sheets.{longest}
 use Rattle.curves.specs.Curves.{halves}
 use Rattle.curves.proofs.Registers.{spelled}
 use borrow.Author.Needs.{needs}
@@ -22,7 +23,7 @@ returns c =
     rw (first .before .high .ensures, first .low .ensures, second .before .high2 .ensures, second .low2 .ensures)
     (rw (third .before .high3 .ensures, third .low3 .ensures, fourth .before .high4 .ensures, fourth .low4 .ensures)
     (rw (c .before .high5 .ensures, c .low5 .ensures)
-    (ap₂ (λ (bs cs : List ℕ). column 14 (λ k. getD (bs ++ halves cs) k 0)) (spelled (a .t1) 4 (search needs)) (spelled (a .t2) 5 (search needs)))))
+    (ap₂ (λ (bs cs : List ℕ). column longest (λ k. getD (bs ++ halves cs) k 0)) (spelled (a .t1) 4 (search needs)) (spelled (a .t2) 5 (search needs)))))
 
 pub step-bytes-spec : {M : Type 1} → statement M
 step-bytes-spec =

@@ -58,7 +58,7 @@ returns-2 c =
     let cool : degree (a .t) < degree (a .critical) = omega (arith, k .before .if1 .left, k .before .before .degree-of2 .ensures, d .degree-of .ensures) in
     c .duty-below .ensures
     ∙ rw (
-      k .count-of .ensures,
+      k .count-of .ensures .answer,
       c .before .before .before .degrees-of .ensures,
       d .degree-of .ensures,
       taken-map degree (a .number) mostPoints (a .temperatures) (search needs),

@@ -6,7 +6,7 @@ use Rattle.pages.specs.declared.Register.{Register}
 use Rattle.pages.specs.Rows.{column, standsAt}
 use Rattle.pages.proofs.Columns.{column-length, column-at}
 use Rattle.plans.specs.Parts.{worthAt}
-use Rattle.images.proofs.Filling.{Filled, filled-none, filled-more, filled-all}
+use Rattle.pages.proofs.Filling.{Filled, filled-none, filled-more, filled-all}
 use borrow.Author.Needs.{needs}
 use Rattle.plans.proofs.tables.held.Statement.{statement}
 use Rattle.plans.proofs.tables.held.Tie as tie
