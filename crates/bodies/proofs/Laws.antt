@@ -154,7 +154,7 @@ body-back leading Steps points plan rest sized p =
     λ i. record { chip = plan .chip; table = plan .table; points = points; slope = noSlope; steps = values i }
 
 -- the values of all points, from a place of a body on, are the bytes there
-points-taken : (n first : ℕ) (bytes : List ℕ) → n ≤ mostPoints → first + n ≤ length bytes → take n (pointsIn n first bytes) ≡ take n (drop first bytes)
+pub points-taken : (n first : ℕ) (bytes : List ℕ) → n ≤ mostPoints → first + n ≤ length bytes → take n (pointsIn n first bytes) ≡ take n (drop first bytes)
 points-taken n first bytes p h =
     let long = length-take-le n (pointsIn n first bytes) (omega (arith, column-length mostPoints (pointAt n first bytes), p)) in
     let there = length-take-le n (drop first bytes) (omega (arith, length-drop first bytes, h)) in

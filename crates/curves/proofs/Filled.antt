@@ -2,6 +2,9 @@
 -- Assumes nothing.
 use native.Mathlib.Omega.{arith}
 use mathlib.Core.Path.{_≡_}
+use mathlib.Core.Bool.{So}
+use borrow.Author.Tests.{leb-true}
+use lib.Dec.{leb}
 use mathlib.Core.List.{List, [], _∷_, _++_}
 use Prim.Native.Nat.{ℕ, zero, suc, _≤_}
 use lib.ListN.{length, take, length-append}
@@ -9,6 +12,8 @@ use lib.Seq.{length-take-le}
 use Rattle.pages.specs.declared.Shape.{Shape}
 use Rattle.pages.specs.declared.Shape.the-variants.{Slope, Steps}
 use Rattle.pages.specs.Sheets.{mostPoints, room}
+use Rattle.pages.proofs.Every.{both}
+use Rattle.pages.proofs.Sound.{counts}
 use Rattle.curves.specs.declared.Plan.{Plan}
 use Rattle.curves.specs.Curves.{halves}
 use Rattle.curves.specs.Planned.{planned}
@@ -19,6 +24,10 @@ use Rattle.curves.proofs.StepLaws.{halves-length}
 abbrev pub Roomy : Shape → Type 0
 Roomy (Slope points full) = points ≤ mostPoints
 Roomy Steps = Unit {0}
+
+pub roomy : (shape : Shape) → So (counts shape) → Roomy shape
+roomy (Slope points full) t = leb-true points mostPoints (both (leb 2 points) (leb points mostPoints) t .1)
+roomy Steps t = tt
 
 -- as many settings and speeds as there is room for
 pub planned-sized : (shape : Shape) (plan : Plan) → Sized plan → Roomy shape

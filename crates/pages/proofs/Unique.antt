@@ -1,6 +1,7 @@
 -- No second answer of a look-up meets its contract.
 -- Assumes nothing.
 use Prim.Native.Nat.{ℕ}
+use mathlib.Core.Bool.{Bool}
 use mathlib.Core.Path.{_≡_, sym, _∙_}
 use Rattle.pages.specs.declared.Chip.{Chip}
 use Rattle.pages.specs.declared.Named.{Named}
@@ -12,7 +13,7 @@ use Rattle.pages.specs.declared.Register.{Register}
 use Rattle.pages.specs.declared.Required.{Required}
 use Rattle.pages.specs.declared.Selector.{Selector}
 use Rattle.pages.specs.declared.Sizes.{Sizes}
-use Rattle.pages.specs.Contracts.{Names, Finds, PowersOn, TellsSizes, Requires, Lays, LaysOut, Stands, Selects, Positions, StandsInOneRow, StandsAt}
+use Rattle.pages.specs.Contracts.{GoesWith, Names, Finds, PowersOn, TellsSizes, Requires, Lays, LaysOut, Stands, Selects, Positions, StandsInOneRow, StandsAt}
 
 pub names-unique : {number : ℕ} {r s : Named} → Names number r → Names number s → r ≡ s
 names-unique p q = p .answer ∙ sym (q .answer)
@@ -50,3 +51,6 @@ one-row-unique p q = p .answer ∙ sym (q .answer)
 
 pub stands-at-unique : {ground : Ground} {k : ℕ} {r s : Register} → StandsAt ground k r → StandsAt ground k s → r ≡ s
 stands-at-unique p q = p .answer ∙ sym (q .answer)
+
+pub goes-with-unique : {layout : Layout} {points : ℕ} {r s : Bool} → GoesWith layout points r → GoesWith layout points s → r ≡ s
+goes-with-unique p q = p .answer ∙ sym (q .answer)

@@ -2,6 +2,7 @@
 -- Assumes nothing.
 use Prim.Native.Nat.{ℕ}
 use mathlib.Core.Path.{_≡_}
+use mathlib.Core.Bool.{Bool}
 use Rattle.pages.specs.declared.Chip.{Chip}
 use Rattle.pages.specs.declared.Named.{Named}
 use Rattle.pages.specs.declared.Masks.{Masks}
@@ -14,7 +15,7 @@ use Rattle.pages.specs.declared.Fan.{Fan}
 use Rattle.pages.specs.declared.Layout.{Layout}
 use Rattle.pages.specs.Banks.{standsIn}
 use Rattle.pages.specs.Rows.{masksIn, requiredIn, inOneRow, standsAt}
-use Rattle.pages.specs.Sheets.{sizesIn, laidIn, selectorIn}
+use Rattle.pages.specs.Sheets.{sizesIn, laidIn, goesWith, selectorIn}
 use Rattle.pages.specs.Cards.{sheetOf, chipOf, banksOf, rowOf, layoutOf, groundOf}
 
 -- what `cards::chip_of` promises
@@ -56,6 +57,10 @@ pub record Selects (chip : Chip) (selector : Selector) : Type 0 where
 -- what `cards::position_of` and `position` of a chip promise
 pub record Positions (chip : Chip) (bank address position : ℕ) : Type 0 where
   pub answer : position ≡ standsIn (banksOf chip) bank address
+
+-- what `pages::goes_with` promises
+pub record GoesWith (layout : Layout) (points : ℕ) (r : Bool) : Type 0 where
+  pub answer : r ≡ goesWith layout points
 
 -- what `pages::one_row` promises
 pub record StandsInOneRow (first settings speeds : ℕ) (masks : Masks) (ground : Ground) : Type 0 where

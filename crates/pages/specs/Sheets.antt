@@ -1,7 +1,7 @@
 -- A chip as one page of facts, everything that sets it apart from the others; and what is read off a page.
 -- Assumes nothing.
 use Prim.Native.Nat.{ℕ, _+_, _-_}
-use mathlib.Core.Bool.{Bool, false, cond, _&&_}
+use mathlib.Core.Bool.{Bool, true, false, cond, _&&_}
 use mathlib.Core.List.{List, [], _∷_, _++_, map}
 use lib.Dec.{eqb, leb}
 use lib.ListN.{length, getD, take, drop}
@@ -97,6 +97,10 @@ layout banks card table =
       leading = table .leading;
       counted = table .counted;
     }
+
+-- whether a number of points goes with a table: where its record carries one, it is that of its duties
+abbrev pub goesWith : Layout → ℕ → Bool
+goesWith layout points = cond (layout .counted) (eqb points (layout .speeds)) true
 
 abbrev pub laidIn : Sheet → ℕ → Fan
 laidIn sheet number =

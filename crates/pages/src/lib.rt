@@ -2,7 +2,7 @@
 ghost use mathlib.Core.Path.{_≡_};
 ghost use lib.ListN.{getD};
 ghost use Rattle.pages.specs.Rows.{spread, noRegister};
-ghost use Rattle.pages.specs.Contracts.{StandsInOneRow, StandsAt};
+ghost use Rattle.pages.specs.Contracts.{GoesWith, StandsInOneRow, StandsAt};
 
 pub enum Chip {
     Nct7802y,
@@ -120,6 +120,16 @@ pub const NOTHING: Required = Required {
     value: 0x00,
     other: 0x00,
 };
+
+// Whether a number of points goes with a fan table: where its record carries one, it is that of its duties.
+pub fn goes_with(layout: Layout, points: u8) -> bool
+    ensures { λ r. ⌜ GoesWith layout points r ⌝ }
+{
+    if layout.counted {
+        return points as usize == layout.speeds;
+    }
+    true
+}
 
 // Where a table stands whose registers are all in a row: some settings and one more, then the speeds.
 pub fn one_row(first: u8, settings: u8, speeds: u8, masks: Masks) -> Ground

@@ -15,24 +15,24 @@ use Rattle.pages.specs.declared.Chip.{Chip}
 use Rattle.pages.specs.declared.Layout.{Layout}
 use Rattle.pages.specs.declared.Register.{Register}
 use Rattle.pages.specs.Rows.{positions, column}
-use Rattle.pages.specs.Sheets.{registerIn}
+use Rattle.pages.specs.Sheets.{longest, registerIn}
 use Rattle.pages.specs.Cards.{sheetOf, rowOf, hasTable, tableOf, layoutOf, shapeOf, fitsAt}
 use Rattle.pages.proofs.Columns.{column-at}
-use Rattle.pages.proofs.Tables.{table-sized, register-at, whole-mask, byte-fits}
+use Rattle.pages.proofs.Tables.{table-pointed, table-sized, register-at, whole-mask, byte-fits}
 use Rattle.curves.specs.declared.Plan.{Plan}
 use Rattle.curves.specs.Planned.{temperaturesInOrder, speedsInOrder}
 use Rattle.curves.specs.Values.{Within, Sized, Typed}
-use Rattle.curves.proofs.Filled.{planned-sized, planned-within}
+use Rattle.curves.proofs.Filled.{roomy, planned-sized, planned-within}
 use Rattle.bodies.specs.Bodies.{body}
 use Rattle.plans.specs.Plans.{holdable, plannedFor, temperaturesPass, speedsPass}
 use Rattle.plans.specs.Parts.{fitFrom, planFits}
 
 -- values in a column are asked as in their list
-pub fit-column : (register : ℕ → Register) (values : List ℕ) (place n : ℕ) → n ≤ 14 - place
-    → fitFrom register (column 14 (λ k. getD values k 0)) place n ≡ fitFrom register values place n
+pub fit-column : (register : ℕ → Register) (values : List ℕ) (place n : ℕ) → n ≤ longest - place
+    → fitFrom register (column longest (λ k. getD values k 0)) place n ≡ fitFrom register values place n
 fit-column register values place zero h = refl
 fit-column register values place (suc n) h =
-    ap₂ _&&_ (ap (λ (b : ℕ). eqb (bitAnd b (register place .masks .writable)) b) (column-at 14 (λ k. getD values k 0) place (omega arith)))
+    ap₂ _&&_ (ap (λ (b : ℕ). eqb (bitAnd b (register place .masks .writable)) b) (column-at longest (λ k. getD values k 0) place (omega arith)))
     (fit-column register values (suc place) n (omega arith))
 
 -- registers from a place on, and the values of these places
@@ -67,10 +67,10 @@ all-fit chip (p ∷ ps) (x ∷ vs) e m w =
 -- a plan fills its table: as many settings and as many speeds
 module _ (chip : Chip) (plan : Plan) (sized : Sized plan) (has : So (hasTable chip (plan .table))) where
   pub settings-long : length (tableOf chip (plan .table) .settings) ≡ length (plannedFor chip plan .settings)
-  settings-long = table-sized chip (plan .table) has .0 ∙ sym (planned-sized (shapeOf chip (plan .table)) plan sized .0)
+  settings-long = table-sized chip (plan .table) has .0 ∙ sym (planned-sized (shapeOf chip (plan .table)) plan sized (roomy (shapeOf chip (plan .table)) (table-pointed chip (plan .table))) .0)
 
   pub speeds-long : length (tableOf chip (plan .table) .speeds) ≡ length (plannedFor chip plan .speeds)
-  speeds-long = table-sized chip (plan .table) has .1 ∙ sym (planned-sized (shapeOf chip (plan .table)) plan sized .1)
+  speeds-long = table-sized chip (plan .table) has .1 ∙ sym (planned-sized (shapeOf chip (plan .table)) plan sized (roomy (shapeOf chip (plan .table)) (table-pointed chip (plan .table))) .1)
 
 module _ (chip : Chip) (plan : Plan) (typed : Typed plan) (has : So (hasTable chip (plan .table))) where
   abbrev settings : List ℕ

@@ -23,32 +23,40 @@ use Rattle.curves.specs.declared.Plan.{Plan}
 use Rattle.curves.specs.Curves.{degree}
 use Rattle.curves.specs.Orders.{Each, neverFalls, fulls, MoreDuty}
 use Rattle.curves.specs.Planned.{planned, asks}
-use Rattle.plans.specs.Plans.{temperaturesPass, speedsPass, acceptedOf, accepted}
-use Rattle.plans.specs.Contracts.{temperaturesOut, speedsOut, planChecks, Accepts}
+use Rattle.plans.specs.Plans.{pointsPass, temperaturesPass, speedsPass, acceptedOf, accepted}
+use Rattle.plans.specs.Contracts.{pointsOut, temperaturesOut, speedsOut, planChecks, Accepts}
 use Rattle.curves.proofs.SlopeLaws.{slope-never-falls}
 use Rattle.curves.proofs.StepLaws.{steps-never-rises, words-halves}
 
 -- a plan of a chip that no check refuses
 pub record Accepted (chip : Chip) (plan : Plan) : Type 0 where
   pub has : hasTable chip (plan .table) ≡ true
+  pub points : pointsPass chip plan ≡ true
   pub temperatures : temperaturesPass chip plan ≡ true
   pub speeds : speedsPass chip plan ≡ true
 
 pub passed-plan : (chip : Chip) (plan : Plan) → chipOf (plan .chip) ≡ named.Known chip → first (planChecks plan) ≡ 0 → Accepted chip plan
 passed-plan chip plan e h =
     let behind-six : List Check = (not (speedsPass chip plan), 7) ∷ [] in
-    let behind-four : List Check = (not (temperaturesPass chip plan), 6) ∷ behind-six in
+    let behind-form : List Check = (not (temperaturesPass chip plan), 6) ∷ behind-six in
+    let behind-four : List Check = (not (pointsPass chip plan), 16) ∷ behind-form in
     let known : first ((not (hasTable chip (plan .table)), 4) ∷ behind-four) ≡ 0 = rw e at h in
     let four = passed (not (hasTable chip (plan .table))) 4 behind-four (lit< tt) known in
-    let six = passed (not (temperaturesPass chip plan)) 6 behind-six (lit< tt) (four .1) in
+    let form = passed (not (pointsPass chip plan)) 16 behind-form (lit< tt) (four .1) in
+    let six = passed (not (temperaturesPass chip plan)) 6 behind-six (lit< tt) (form .1) in
     let seven = passed (not (speedsPass chip plan)) 7 [] (lit< tt) (six .1) in
-    record { has = not-false _ (four .0); temperatures = not-false _ (six .0); speeds = not-false _ (seven .0) }
+    record {
+      has = not-false _ (four .0);
+      points = not-false _ (form .0);
+      temperatures = not-false _ (six .0);
+      speeds = not-false _ (seven .0);
+    }
 
 -- it names a chip
 pub accepted-known : (plan : Plan) → first (planChecks plan) ≡ 0 → unknown (plan .chip) ≡ false
 accepted-known plan h =
     passed (unknown (plan .chip)) 3
-    ((noTable (plan .chip) (plan .table), 4) ∷ (temperaturesOut plan, 6) ∷ (speedsOut plan, 7) ∷ [])
+    ((noTable (plan .chip) (plan .table), 4) ∷ (pointsOut plan, 16) ∷ (temperaturesOut plan, 6) ∷ (speedsOut plan, 7) ∷ [])
     (lit< tt) h .0
 
 -- what an answer of `accept` tells, in the paper's numbers
@@ -56,20 +64,30 @@ abbrev refusalIn : Admitted → ℕ
 refusalIn (Known chip) = 0
 refusalIn (Refused r) = numberOf r
 
+-- the answer by how the tests of a chip's plan end
+abbrev judged : Chip → Bool → Bool → Bool → Bool → Admitted
+judged c has points temperatures speeds =
+    cond has
+    (cond points
+    (cond temperatures (cond speeds (Known c) (Refused Refusal.SpeedsOutOfOrder)) (Refused Refusal.TemperaturesOutOfOrder))
+    (Refused Refusal.FormNotOfChip))
+    (Refused Refusal.NoSuchTable)
+
 -- it is the first check that the plan fails
 accepted-checks : (plan : Plan) → refusalIn (accepted plan) ≡ first (planChecks plan)
 accepted-checks plan = by-name (chipOf (plan .chip)) refl
   where
-    by-tests : (c : Chip) (has temperatures speeds : Bool)
-        → refusalIn (cond has (cond temperatures (cond speeds (Known c) (Refused Refusal.SpeedsOutOfOrder)) (Refused Refusal.TemperaturesOutOfOrder)) (Refused Refusal.NoSuchTable))
-        ≡ first ((not has, 4) ∷ (not temperatures, 6) ∷ (not speeds, 7) ∷ [])
-    by-tests c true true true = refl
-    by-tests c true true false = refl
-    by-tests c true false speeds = refl
-    by-tests c false temperatures speeds = refl
+    by-tests : (c : Chip) (has points temperatures speeds : Bool)
+        → refusalIn (judged c has points temperatures speeds)
+        ≡ first ((not has, 4) ∷ (not points, 16) ∷ (not temperatures, 6) ∷ (not speeds, 7) ∷ [])
+    by-tests c true true true true = refl
+    by-tests c true true true false = refl
+    by-tests c true true false speeds = refl
+    by-tests c true false temperatures speeds = refl
+    by-tests c false points temperatures speeds = refl
 
     by-name : (n : Named) → chipOf (plan .chip) ≡ n → refusalIn (accepted plan) ≡ first (planChecks plan)
-    by-name (named.Known c) e = rw e (by-tests c (hasTable c (plan .table)) (temperaturesPass c plan) (speedsPass c plan))
+    by-name (named.Known c) e = rw e (by-tests c (hasTable c (plan .table)) (pointsPass c plan) (temperaturesPass c plan) (speedsPass c plan))
     by-name named.Unknown e = rw e
 
 pub refused-plan : {plan : Plan} {r : Admitted} (q : Refusal) → Accepts plan r → r ≡ Refused q → numberOf q ≡ first (planChecks plan)
@@ -82,27 +100,27 @@ accepted-plan {plan} chip p e = sym (ap refusalIn (sym e ∙ p .answer) ∙ acce
 pub accepted-chip : {plan : Plan} {r : Admitted} (chip : Chip) → Accepts plan r → r ≡ Known chip → chipOf (plan .chip) ≡ named.Known chip
 accepted-chip {plan} {r} chip p e = by-name (chipOf (plan .chip)) refl (sym (p .answer) ∙ e)
   where
-    by-tests : (c : Chip) (has temperatures speeds : Bool)
-        → cond has (cond temperatures (cond speeds (Known c) (Refused Refusal.SpeedsOutOfOrder)) (Refused Refusal.TemperaturesOutOfOrder)) (Refused Refusal.NoSuchTable) ≡ Known chip
-        → c ≡ chip
-    by-tests c true true true e = cc
-    by-tests c true true false e = let z : _≡_ {A = ℕ} 0 1 = cc in absurd (omega arith)
-    by-tests c true false speeds e = let z : _≡_ {A = ℕ} 0 1 = cc in absurd (omega arith)
-    by-tests c false temperatures speeds e = let z : _≡_ {A = ℕ} 0 1 = cc in absurd (omega arith)
+    by-tests : (c : Chip) (has points temperatures speeds : Bool) → judged c has points temperatures speeds ≡ Known chip → c ≡ chip
+    by-tests c true true true true e = cc
+    by-tests c true true true false e = let z : _≡_ {A = ℕ} 0 1 = cc in absurd (omega arith)
+    by-tests c true true false speeds e = let z : _≡_ {A = ℕ} 0 1 = cc in absurd (omega arith)
+    by-tests c true false temperatures speeds e = let z : _≡_ {A = ℕ} 0 1 = cc in absurd (omega arith)
+    by-tests c false points temperatures speeds e = let z : _≡_ {A = ℕ} 0 1 = cc in absurd (omega arith)
 
     by-name : (n : Named) → chipOf (plan .chip) ≡ n → whenKnown n (λ c. acceptedOf c plan) (Refused Refusal.NoSuchChip) ≡ Known chip
         → chipOf (plan .chip) ≡ named.Known chip
-    by-name (named.Known c) q e = q ∙ ap named.Known (by-tests c (hasTable c (plan .table)) (temperaturesPass c plan) (speedsPass c plan) e)
+    by-name (named.Known c) q e = q ∙ ap named.Known (by-tests c (hasTable c (plan .table)) (pointsPass c plan) (temperaturesPass c plan) (speedsPass c plan) e)
     by-name named.Unknown q e = let z : _≡_ {A = ℕ} 0 1 = cc in absurd (omega arith)
 
 -- a slope whose duties never fall, none above full: the duty asked never falls as T rises
-pub duty-never-falls : (full : ℕ) (plan : Plan) (t u : ℕ) → So (neverFalls (plan .slope .duties))
-    → Each MoreDuty (fulls full (plan .slope .duties)) (plan .slope .duties) → degree t ≤ degree u
-    → asks (Slope full) (planned (Slope full) plan) t ≤ asks (Slope full) (planned (Slope full) plan) u
-duty-never-falls full plan t u order bytes h =
-    let settings = planned (Slope full) plan .settings in
-    let n = length (plan .slope .duties) in
-    slope-never-falls full (map degree (take n settings)) (plan .slope .duties) (degree (getD settings n 0)) (degree t) (degree u) order bytes h
+pub duty-never-falls : (points full : ℕ) (plan : Plan) (t u : ℕ) → So (neverFalls (take points (plan .slope .duties)))
+    → Each MoreDuty (fulls full (take points (plan .slope .duties))) (take points (plan .slope .duties)) → degree t ≤ degree u
+    → asks (Slope points full) (planned (Slope points full) plan) t ≤ asks (Slope points full) (planned (Slope points full) plan) u
+duty-never-falls points full plan t u order bytes h =
+    let curve = planned (Slope points full) plan in
+    let n = length (curve .speeds) in
+    slope-never-falls full (map degree (take n (curve .settings))) (curve .speeds) (degree (getD (curve .settings) n 0)) (degree t) (degree u)
+    order bytes h
 
 -- steps whose counts never fall: the count asked never rises as T rises
 pub count-never-rises : (plan : Plan) (t u : ℕ) → So (neverFalls (plan .steps .counts)) → length (plan .steps .bounds) < length (plan .steps .counts) → t ≤ u

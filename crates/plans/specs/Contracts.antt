@@ -14,7 +14,11 @@ use Rattle.curves.specs.declared.Plan.{Plan}
 use Rattle.curves.specs.Planned.{asks}
 use Rattle.plans.specs.declared.Asked.{Asked}
 use Rattle.plans.specs.declared.Asked.the-variants as asked
-use Rattle.plans.specs.Plans.{held, plannedFor, temperaturesPass, speedsPass, accepted}
+use Rattle.plans.specs.Plans.{held, plannedFor, pointsPass, temperaturesPass, speedsPass, accepted}
+
+-- refusal 16: "A chip 5 plan handed in that carries a point count is refused 16 for it too"
+abbrev pub pointsOut : Plan → Bool
+pointsOut plan = not (whenKnown (chipOf (plan .chip)) (λ c. pointsPass c plan) true)
 
 -- refusal 6: "temperatures of the plan are out of order", or a register cannot hold one
 abbrev pub temperaturesOut : Plan → Bool
@@ -24,14 +28,14 @@ temperaturesOut plan = not (whenKnown (chipOf (plan .chip)) (λ c. temperaturesP
 abbrev pub speedsOut : Plan → Bool
 speedsOut plan = not (whenKnown (chipOf (plan .chip)) (λ c. speedsPass c plan) true)
 
--- "Asking a speed .. of a plan 3 and 4, never 6 or 7"
+-- "Asking a speed .. of a plan 3 and 4, never 6 or 7"; and 16, "straight after 4"
 abbrev pub askPlanChecks : Plan → List Check
-askPlanChecks plan = (unknown (plan .chip), 3) ∷ (noTable (plan .chip) (plan .table), 4) ∷ []
+askPlanChecks plan = (unknown (plan .chip), 3) ∷ (noTable (plan .chip) (plan .table), 4) ∷ (pointsOut plan, 16) ∷ []
 
 abbrev pub orderChecks : Plan → List Check
 orderChecks plan = (temperaturesOut plan, 6) ∷ (speedsOut plan, 7) ∷ []
 
--- "checks the plan by 3, 4, 6, 7"
+-- "checks the plan by 3, 4, 6, 7", with 16 "straight after 4"
 abbrev pub planChecks : Plan → List Check
 planChecks plan = askPlanChecks plan ++ orderChecks plan
 

@@ -3,9 +3,10 @@
 use Prim.Native.Nat.{ℕ}
 use mathlib.Core.Bool.{Bool, true, false, cond, _&&_}
 use mathlib.Core.List.{List, [], _∷_, map}
-use Rattle.refusal.specs.declared.Refusal.the-variants.{NoSuchChip, NoSuchTable, TemperaturesOutOfOrder, SpeedsOutOfOrder}
+use Rattle.refusal.specs.declared.Refusal.the-variants.{NoSuchChip, NoSuchTable, TemperaturesOutOfOrder, SpeedsOutOfOrder, FormNotOfChip}
 use Rattle.pages.specs.declared.Chip.{Chip}
-use Rattle.pages.specs.Cards.{chipOf, whenKnown, hasTable, tableOf, shapeOf, worth, fitsAt}
+use Rattle.pages.specs.Sheets.{goesWith}
+use Rattle.pages.specs.Cards.{chipOf, whenKnown, hasTable, tableOf, shapeOf, layoutOf, worth, fitsAt}
 use Rattle.images.specs.declared.Admitted.{Admitted}
 use Rattle.images.specs.declared.Admitted.the-variants.{Known, Refused}
 use Rattle.curves.specs.declared.Plan.{Plan}
@@ -30,6 +31,10 @@ holdable chip (p ∷ ps) (v ∷ vs) = fitsAt chip p v && holdable chip ps vs
 abbrev pub plannedFor : Chip → Plan → Curve
 plannedFor chip plan = planned (shapeOf chip (plan .table)) plan
 
+-- a plan's point count goes with its table, where a record of the table carries one
+unfoldable pub pointsPass : Chip → Plan → Bool
+pointsPass chip plan = goesWith (layoutOf chip (plan .table)) (plan .points)
+
 -- a plan's temperatures are in order, and its table can hold them ..
 unfoldable pub temperaturesPass : Chip → Plan → Bool
 temperaturesPass chip plan =
@@ -44,9 +49,11 @@ speedsPass chip plan =
 abbrev pub acceptedOf : Chip → Plan → Admitted
 acceptedOf chip plan =
     cond (hasTable chip (plan .table))
+    (cond (pointsPass chip plan)
     (cond (temperaturesPass chip plan)
     (cond (speedsPass chip plan) (Known chip) (Refused SpeedsOutOfOrder))
     (Refused TemperaturesOutOfOrder))
+    (Refused FormNotOfChip))
     (Refused NoSuchTable)
 
 -- .. and of any chip number

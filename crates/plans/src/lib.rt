@@ -12,7 +12,7 @@ ghost use mathlib.Core.Path.{_≡_};
 ghost use Rattle.plans.specs.Plans.{acceptedOf};
 ghost use Rattle.plans.specs.Contracts.{Accepts, Judges, AsksPlan, AsksImage};
 
-// The duty of chip 1, or the count of chip 2.
+// A duty, or the count of chip 2.
 pub enum Asked {
     Speed(u16),
     Refused(Refusal),
@@ -25,6 +25,9 @@ fn accept_known(chip: Chip, plan: Plan) -> Admitted
     let Fan::Laid(layout) = cards::table_of(chip, plan.table) else {
         return Admitted::Refused(Refusal::NoSuchTable);
     };
+    if !pages::goes_with(layout, plan.points) {
+        return Admitted::Refused(Refusal::FormNotOfChip);
+    }
     let shape = layout.shape;
     let fitting = tables::fit(chip, plan, layout);
     if !(curves::temperatures_in_order(shape, plan) & fitting.settings) {
@@ -66,6 +69,9 @@ pub fn asked_of_plan(plan: Plan, t: u8) -> Asked
             let Fan::Laid(layout) = cards::table_of(chip, plan.table) else {
                 return Asked::Refused(Refusal::NoSuchTable);
             };
+            if !pages::goes_with(layout, plan.points) {
+                return Asked::Refused(Refusal::FormNotOfChip);
+            }
             let shape = layout.shape;
             Asked::Speed(curves::speed_of(shape, plan, t))
         }
@@ -88,7 +94,7 @@ pub fn asked_of_image(chip: u8, table: u8, image: &[u8], t: u8) -> Asked
                 let ground = cards::ground_of(known, table);
                 let body = tables::held(ground, image);
                 let shape = layout.shape;
-                let plan = bodies::plan_of(shape, false, chip, table, body);
+                let plan = bodies::plan_of(shape, false, chip, table, 0, &body);
                 Asked::Speed(curves::speed_of(shape, plan, t))
             }
         },

@@ -8,6 +8,7 @@ use pages::Register;
 ghost use Prim.Native.Nat.{_+_, _-_, _≤_};
 ghost use mathlib.Core.Path.{_≡_};
 ghost use Rattle.pages.specs.Rows.{column, standsAt};
+ghost use Rattle.pages.specs.Sheets.{longest};
 ghost use Rattle.plans.specs.Parts.{worthAt, fitFrom, fittingOf};
 
 // A register's writable bits in the image, and 0 behind the image's end.
@@ -25,7 +26,7 @@ fn worth(image: &[u8], register: Register) -> u8
 
 // Register by register, in the order of the table.
 pub(crate) fn held(ground: Ground, image: &[u8]) -> [u8; LONGEST]
-    ensures { λ r. ⌜ r ≡ column 14 (λ k. worthAt (standsAt ground k) (now (image .entry))) ⌝ }
+    ensures { λ r. ⌜ r ≡ column longest (λ k. worthAt (standsAt ground k) (now (image .entry))) ⌝ }
 {
     let mut bytes = [0u8; LONGEST];
     for k in 0..LONGEST {
@@ -36,7 +37,7 @@ pub(crate) fn held(ground: Ground, image: &[u8]) -> [u8; LONGEST]
 
 // Whether the registers of a table, from one place up to another, can hold a body's bytes.
 fn each_fits(ground: Ground, body: [u8; LONGEST], from: usize, to: usize) -> bool
-    requires { ⌜ to ≤ 14 ⌝ }
+    requires { ⌜ to ≤ longest ⌝ }
     ensures { λ r. ⌜ r ≡ fitFrom (standsAt ground) body from (to - from) ⌝ }
 {
     for k in from..to {
@@ -58,7 +59,7 @@ pub(crate) struct Fitting {
 
 // A table all of whose bits are writable holds every byte.
 pub(crate) fn fit(chip: Chip, plan: Plan, layout: Layout) -> Fitting
-    requires { ⌜ layout .settings + layout .speeds ≤ 14 ⌝ }
+    requires { ⌜ layout .settings + layout .speeds ≤ longest ⌝ }
     ensures { λ r. ⌜ r ≡ fittingOf chip plan layout ⌝ }
 {
     if layout.whole {

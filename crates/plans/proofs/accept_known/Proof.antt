@@ -9,6 +9,7 @@ use borrow.Author.Needs.{needs}
 use lib.ListN.{length-append}
 use Rattle.pages.specs.declared.Chip.{Chip}
 use Rattle.pages.specs.declared.Layout.{Layout}
+use Rattle.pages.specs.Sheets.{longest}
 use Rattle.pages.specs.Cards.{hasTable, tableOf, layoutOf}
 use Rattle.pages.proofs.Tables.{table-short}
 use Rattle.cards.proofs.Told.{table-found, table-missed}
@@ -40,7 +41,7 @@ typed c = plan-typed (plan c) _ (c .before .before .before .before .good .1 .0)
 found : (c : Found) → So (hasTable (chip c) (plan c .table)) × (layout c ≡ layoutOf (chip c) (plan c .table))
 found c = table-found _ (c .before .before .before .table-of .ensures) (c .before .layout .given .1)
 
-registers : (c : Found) → layout c .settings + layout c .speeds ≤ 14
+registers : (c : Found) → layout c .settings + layout c .speeds ≤ longest
 registers c =
     let t = tableOf (chip c) (plan c .table) in
     omega (

@@ -6,7 +6,7 @@ use mathlib.Core.Path.{_≡_, ap, ap₂, _∙_}
 use mathlib.Core.List.{List}
 use Rattle.pages.specs.declared.Register.{Register}
 use Rattle.pages.specs.Rows.{standsAt}
-use Rattle.pages.specs.Sheets.{registerIn}
+use Rattle.pages.specs.Sheets.{longest, registerIn}
 use Rattle.pages.specs.Cards.{sheetOf}
 use Rattle.pages.proofs.Tables.{table-ground}
 use Rattle.curves.specs.Planned.{planned}
@@ -18,7 +18,7 @@ use Rattle.plans.proofs.tables.fit.Statement.{statement}
 use Rattle.plans.proofs.tables.fit.Tie as tie
 
 -- the registers of n places, asked for the bytes of the plan's body
-asked : (c : tie.After-ground-of) (place to n : ℕ) → to - place ≡ n → to ≤ 14
+asked : (c : tie.After-ground-of) (place to n : ℕ) → to - place ≡ n → to ≤ longest
     → (let a = c .before .before .before .args in
     fitFrom (standsAt (c .ground-of .result)) (c .before .body-of .result) place (to - place)
     ≡ fitFrom (registerIn (sheetOf (a .chip)) (a .plan .table)) (body (planned (a .layout .shape) (a .plan))) place n)
@@ -27,7 +27,7 @@ asked c place to n e h =
     let register = registerIn (sheetOf (a .chip)) (a .plan .table) in
     let there = ap standsAt (c .ground-of .ensures .answer) ∙ table-ground (a .chip) (a .plan .table) in
     ap (λ (at : ℕ → Register). fitFrom at (c .before .body-of .result) place (to - place)) there
-    ∙ ap₂ (λ (bytes : List ℕ) (k : ℕ). fitFrom register bytes place k) (c .before .body-of .ensures .answer) e
+    ∙ ap₂ (λ (bytes : List ℕ) (k : ℕ). fitFrom register bytes place k) ((c .before .body-of .ensures .answer ∙ ap (λ (l : List ℕ). column longest (λ k. getD l k 0)) (plain-body (a .layout .shape) (a .plan))) e
     ∙ fit-column register (body (planned (a .layout .shape) (a .plan))) place n (omega arith)
 
 returns : tie.Need-returns

@@ -4,6 +4,7 @@ use Prim.Native.Nat.{_-_}
 use mathlib.Core.Path.{refl, ap, _∙_}
 use Rattle.pages.specs.declared.Register.{Register}
 use Rattle.pages.specs.Rows.{column, standsAt}
+use Rattle.pages.specs.Sheets.{longest}
 use Rattle.pages.proofs.Columns.{column-length, column-at}
 use Rattle.plans.specs.Parts.{worthAt}
 use Rattle.pages.proofs.Filling.{Filled, filled-none, filled-more, filled-all}
@@ -12,10 +13,10 @@ use Rattle.plans.proofs.tables.held.Statement.{statement}
 use Rattle.plans.proofs.tables.held.Tie as tie
 
 abbrev Inv-loop : tie.InvT-loop
-Inv-loop ground image bytes₀ k₀ bytes k = Filled (λ j. worthAt (standsAt ground j) image) 14 bytes k
+Inv-loop ground image bytes₀ k₀ bytes k = Filled (λ j. worthAt (standsAt ground j) image) longest bytes k
 
 abbrev μ-loop : tie.MeasureT-loop
-μ-loop ground image bytes₀ k₀ bytes k = 14 - k
+μ-loop ground image bytes₀ k₀ bytes k = longest - k
 
 loop-holds : tie.Need-loop-holds Inv-loop μ-loop
 loop-holds c = filled-none _ _ _ refl
@@ -44,8 +45,8 @@ loop-again c =
 returns : tie.Need-returns Inv-loop μ-loop
 returns c =
     let a = c .before .before .before .args in
-    filled-all (c .before .loop .inv) (c .loop-test .left) (column 14 (λ k. worthAt (standsAt (a .ground) k) (a .image .now)))
-    (column-length 14 _) (column-at 14 _)
+    filled-all (c .before .loop .inv) (c .loop-test .left) (column longest (λ k. worthAt (standsAt (a .ground) k) (a .image .now)))
+    (column-length longest _) (column-at longest _)
 
 pub held-spec : {M : Type 1} → statement M
 held-spec =
