@@ -27,6 +27,7 @@ pub fn chip_of(number: u8) -> Named
         2 => Named::Known(Chip::F75373s),
         3 => Named::Known(Chip::Nct80),
         4 => Named::Known(Chip::Nct7904d),
+        5 => Named::Known(Chip::W83793g),
         _ => Named::Unknown,
     }
 }
@@ -40,6 +41,7 @@ pub fn masks_of(chip: Chip, position: usize) -> Masks
         Chip::F75373s => f75373s::masks(position),
         Chip::Nct80 => nct80::masks(position),
         Chip::Nct7904d => nct7904d::masks(position),
+        Chip::W83793g => w83793g::masks(position),
     }
 }
 
@@ -52,6 +54,7 @@ pub fn power_on_of(chip: Chip, position: usize) -> u8
         Chip::F75373s => f75373s::power(position),
         Chip::Nct80 => nct80::power(position),
         Chip::Nct7904d => nct7904d::power(position),
+        Chip::W83793g => w83793g::power(position),
     }
 }
 
@@ -76,6 +79,10 @@ pub fn sizes_of(chip: Chip) -> Sizes
             image: 1280,
             identity: 6,
         },
+        Chip::W83793g => Sizes {
+            image: 768,
+            identity: 3,
+        },
     }
 }
 
@@ -88,6 +95,7 @@ pub fn required_of(chip: Chip, k: usize) -> Required
         Chip::F75373s => f75373s::required(k),
         Chip::Nct80 => NOTHING,
         Chip::Nct7904d => nct7904d::required(k),
+        Chip::W83793g => w83793g::required(k),
     }
 }
 
@@ -100,6 +108,7 @@ pub fn table_of(chip: Chip, number: u8) -> Fan
         Chip::F75373s => f75373s::table(number),
         Chip::Nct80 => Fan::Nothing,
         Chip::Nct7904d => nct7904d::table(number),
+        Chip::W83793g => w83793g::table(number),
     }
 }
 
@@ -133,6 +142,7 @@ pub fn ground_of(chip: Chip, number: u8) -> Ground
         Chip::F75373s => f75373s::ground(number),
         Chip::Nct80 => NO_GROUND,
         Chip::Nct7904d => nct7904d::ground(number),
+        Chip::W83793g => w83793g::ground(number),
     }
 }
 
@@ -142,7 +152,7 @@ const ONE_BANK: Selector = Selector {
     bits: 0x00,
 };
 
-// The register that selects a bank of the chip: of the NCT7904D BANK_SEL, bits 2 to 0.
+// The register that selects a bank of the chip: of the NCT7904D BANK_SEL, bits 2 to 0; of the W83793G BankSel, bits 2 to 0, whose bit 7 may be written too.
 pub fn selector_of(chip: Chip) -> Selector
     ensures { λ r. ⌜ Selects chip r ⌝ }
 {
@@ -160,6 +170,16 @@ pub fn selector_of(chip: Chip) -> Selector
             },
             bits: 0x07,
         },
+        Chip::W83793g => Selector {
+            register: Register {
+                position: 0x00,
+                masks: Masks {
+                    writable: 0x87,
+                    clears: 0x00,
+                },
+            },
+            bits: 0x07,
+        },
     }
 }
 
@@ -172,5 +192,6 @@ pub fn position_of(chip: Chip, bank: u8, address: u8) -> usize
         Chip::F75373s => address as usize,
         Chip::Nct80 => address as usize,
         Chip::Nct7904d => nct7904d::position(bank, address),
+        Chip::W83793g => w83793g::position(bank, address),
     }
 }

@@ -13,7 +13,7 @@ use lib.Dec.{eqb, ltb}
 use lib.ListN.{length, getD, set}
 use lib.Seq.{getD-set-same, set-out}
 use Rattle.pages.specs.declared.Chip.{Chip}
-use Rattle.pages.specs.declared.Chip.the-variants.{Nct7802y, F75373s, Nct7904d}
+use Rattle.pages.specs.declared.Chip.the-variants.{Nct7802y, F75373s, Nct7904d, W83793g}
 use Rattle.pages.specs.declared.Required.{Required}
 use Rattle.pages.specs.Rows.{every, Row, masksIn, rowIn}
 use Rattle.pages.specs.Sheets.{Sheet}
@@ -34,10 +34,11 @@ pub reset-agrees : (chip : Chip) → confirmed chip (powerOn chip) ≡ ltb 0 (le
 unfolding confirmed
 reset-agrees chip = agrees-where-some (powerOn chip) (sheetOf chip .identity) (sound-sheet chip .starts)
 
--- .. and chips 1, 2 and 4 have one
-pub reset-confirmed : So (confirmed Nct7802y (powerOn Nct7802y) && (confirmed F75373s (powerOn F75373s) && confirmed Nct7904d (powerOn Nct7904d)))
+-- .. and chips 1, 2, 4 and 5 have one
+pub reset-confirmed : So (confirmed Nct7802y (powerOn Nct7802y)
+    && (confirmed F75373s (powerOn F75373s) && (confirmed Nct7904d (powerOn Nct7904d) && confirmed W83793g (powerOn W83793g))))
 unfolding sheetOf
-reset-confirmed = ap₂ _&&_ (reset-agrees Nct7802y) (ap₂ _&&_ (reset-agrees F75373s) (reset-agrees Nct7904d))
+reset-confirmed = ap₂ _&&_ (reset-agrees Nct7802y) (ap₂ _&&_ (reset-agrees F75373s) (ap₂ _&&_ (reset-agrees Nct7904d) (reset-agrees W83793g)))
 
 -- a bit that counts, and is neither writable nor a clear bit, is kept; one that does not count does not matter
 kept-bit : (w c m : Bool) (o x : ℕ) → min (bit w) (bit m) ≡ 0 → min (bit c) (bit m) ≡ 0

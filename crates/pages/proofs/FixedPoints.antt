@@ -6,7 +6,7 @@ use mathlib.Core.Bool.{Bool, So, true, _&&_}
 use mathlib.Core.List.{List, [], _∷_, _++_}
 use lib.Dec.{eqb}
 use Rattle.pages.specs.declared.Chip.{Chip}
-use Rattle.pages.specs.declared.Chip.the-variants.{Nct7802y, F75373s, Nct80, Nct7904d}
+use Rattle.pages.specs.declared.Chip.the-variants.{Nct7802y, F75373s, Nct80, Nct7904d, W83793g}
 use Rattle.pages.specs.Rows.{Table}
 use Rattle.pages.specs.Cards.{sheetOf, sizeOf, rowOf, tablesOf}
 use Rattle.pages.specs.Nct7802y as nct7802y
@@ -18,6 +18,10 @@ use Rattle.pages.specs.Nct7904dBank1 as bank1
 use Rattle.pages.specs.Nct7904dBank2 as bank2
 use Rattle.pages.specs.Nct7904dBank3 as bank3
 use Rattle.pages.specs.Nct7904dBank4 as bank4
+use Rattle.pages.specs.W83793g as w83793g
+use Rattle.pages.specs.W83793gBank0 as page0
+use Rattle.pages.specs.W83793gBank1 as page1
+use Rattle.pages.specs.W83793gBank2 as page2
 
 -- a number that the paper gives: what the page says, and what the paper says
 abbrev pub Point : Type 0
@@ -32,14 +36,15 @@ clears chip address = rowOf chip address .clears
 abbrev power : Chip → ℕ → ℕ
 power chip address = rowOf chip address .power
 
--- "All fan table registers have mask FFh"
-abbrev masks : Chip → List ℕ → List Point
-masks chip [] = []
-masks chip (a ∷ rest) = (writable chip a, 0xFF) ∷ masks chip rest
+-- some registers have a mask
+abbrev masks : Chip → ℕ → List ℕ → List Point
+masks chip mask [] = []
+masks chip mask (a ∷ rest) = (writable chip a, mask) ∷ masks chip mask rest
 
-abbrev tableMasks : Chip → List Table → List Point
-tableMasks chip [] = []
-tableMasks chip (t ∷ ts) = masks chip (t .settings ++ t .speeds) ++ tableMasks chip ts
+-- and so have the settings and the speeds of every table
+abbrev tableMasks : Chip → ℕ → ℕ → List Table → List Point
+tableMasks chip setting speed [] = []
+tableMasks chip setting speed (t ∷ ts) = masks chip setting (t .settings) ++ (masks chip speed (t .speeds) ++ tableMasks chip setting speed ts)
 
 unfoldable pub points : List Point
 points =
@@ -47,6 +52,10 @@ points =
     (sizeOf Nct7802y, 256) ∷ (sizeOf F75373s, 256) ∷ (sizeOf Nct80, 256)
     -- of chip 4 "An image holds all banks, one after the other": five
     ∷ (sizeOf Nct7904d, 5 * 256)
+    -- of chip 5 "4, 8 and 10 follow document 001": "three banks of registers"
+    ∷ (sizeOf W83793g, 3 * 256)
+    -- "the vendor byte in the image is the high one"
+    ∷ (power W83793g 0x0D, 0x5C)
     -- "chip 1, 54h and 56h mask 3Fh, power-on 3Fh; 55h and 57h mask 3Fh, power-on 00h"
     ∷ (writable Nct7802y 0x54, 0x3F) ∷ (power Nct7802y 0x54, 0x3F) ∷ (writable Nct7802y 0x56, 0x3F) ∷ (power Nct7802y 0x56, 0x3F)
     ∷ (writable Nct7802y 0x55, 0x3F) ∷ (power Nct7802y 0x55, 0x00) ∷ (writable Nct7802y 0x57, 0x3F) ∷ (power Nct7802y 0x57, 0x00)
@@ -61,12 +70,15 @@ points =
     -- "Chip 3, 00h mask FFh, power-on 08h; 01h read only; 09h mask 07h"
     ∷ (writable Nct80 0x00, 0xFF) ∷ (power Nct80 0x00, 0x08) ∷ (writable Nct80 0x01, 0x00) ∷ (clears Nct80 0x01, 0x00)
     ∷ (writable Nct80 0x09, 0x07)
-    ∷ tableMasks Nct7802y (tablesOf Nct7802y) ++ (tableMasks F75373s (tablesOf F75373s) ++ tableMasks Nct7904d (tablesOf Nct7904d))
+    -- "All fan table registers have mask FFh"; of chip 5 temperatures have bits 6 to 0, and duties bits 5 to 0
+    ∷ tableMasks Nct7802y 0xFF 0xFF (tablesOf Nct7802y)
+    ++ (tableMasks F75373s 0xFF 0xFF (tablesOf F75373s)
+    ++ (tableMasks Nct7904d 0xFF 0xFF (tablesOf Nct7904d) ++ tableMasks W83793g 0x7F 0x3F (tablesOf W83793g)))
 
 unfoldable pub agree : List Point → Bool
 agree [] = true
 agree (p ∷ ps) = eqb (p .0) (p .1) && agree ps
 
 pub fixed-points : So (agree points)
-unfolding agree points sheetOf rowOf nct7802y.card f75373s.card nct80.card nct7904d.card bank0.bank bank1.bank bank2.bank bank3.bank bank4.bank
+unfolding agree points sheetOf rowOf nct7802y.card f75373s.card nct80.card nct7904d.card bank0.bank bank1.bank bank2.bank bank3.bank bank4.bank w83793g.card page0.bank page1.bank page2.bank
 fixed-points = refl

@@ -4,6 +4,7 @@ pub mod Every
 pub mod Carried
 pub mod Pages
 pub mod BankRows
+pub mod W83793gRows
 pub mod Sound
 pub mod Apart
 pub mod Lines

@@ -6,7 +6,7 @@ use mathlib.Core.Bool.{So}
 use mathlib.Core.List.{List, [], _∷_}
 use lib.ListN.{length, getD}
 use Rattle.pages.specs.declared.Chip.{Chip}
-use Rattle.pages.specs.declared.Chip.the-variants.{Nct7802y, F75373s, Nct80, Nct7904d}
+use Rattle.pages.specs.declared.Chip.the-variants.{Nct7802y, F75373s, Nct80, Nct7904d, W83793g}
 use Rattle.pages.specs.Rows.{Reading, positions}
 use Rattle.pages.specs.Cards.{sheetOf, tablesOf, tableOf}
 use Rattle.pages.proofs.FixedPoints.{Point, agree}
@@ -50,6 +50,16 @@ highOf k = getD (reading4 k .high) 0 0
 
 abbrev lowOf : ℕ → ℕ
 lowOf k = reading4 k .low
+
+-- and those of a table of chip 5: seven temperatures, critical, seven duties
+abbrev t5 : ℕ → ℕ → ℕ
+t5 number k = getD (tableOf W83793g number .settings) (k - 1) 0
+
+abbrev critical5 : ℕ → ℕ
+critical5 number = getD (tableOf W83793g number .settings) 7 0
+
+abbrev d5 : ℕ → ℕ → ℕ
+d5 number k = getD (tableOf W83793g number .speeds) (k - 1) 0
 
 -- where a chip's temperatures stand
 abbrev temperature : Chip → Reading
@@ -114,8 +124,26 @@ registers =
     ∷ (length (sheetOf Nct7904d .temperatures), 13)
     -- 7.1.30: "Address FF", "2-0 BANK_SEL[2:0]"
     ∷ (sheetOf Nct7904d .banks .select, 0xFF) ∷ (sheetOf Nct7904d .banks .bits, 0x07)
+    -- chip 5, source document 001, 8.11: "TD1Level01 - Bank 2 Address 30" to "TR2Level67 - Bank 2 Address 86", "TD1FanLevel0 - Bank 2 Address 38" to
+    -- "TR2FanLevel6 - Bank 2 Address 8E"; "CriticalTemp - Bank 0 Address C5" of all six
+    ∷ (t5 1 1, 0x230) ∷ (t5 1 2, 0x231) ∷ (t5 1 3, 0x232) ∷ (t5 1 4, 0x233) ∷ (t5 1 5, 0x234) ∷ (t5 1 6, 0x235) ∷ (t5 1 7, 0x236) ∷ (critical5 1, 0x0C5)
+    ∷ (d5 1 1, 0x238) ∷ (d5 1 2, 0x239) ∷ (d5 1 3, 0x23A) ∷ (d5 1 4, 0x23B) ∷ (d5 1 5, 0x23C) ∷ (d5 1 6, 0x23D) ∷ (d5 1 7, 0x23E)
+    ∷ (t5 2 1, 0x240) ∷ (t5 2 2, 0x241) ∷ (t5 2 3, 0x242) ∷ (t5 2 4, 0x243) ∷ (t5 2 5, 0x244) ∷ (t5 2 6, 0x245) ∷ (t5 2 7, 0x246) ∷ (critical5 2, 0x0C5)
+    ∷ (d5 2 1, 0x248) ∷ (d5 2 2, 0x249) ∷ (d5 2 3, 0x24A) ∷ (d5 2 4, 0x24B) ∷ (d5 2 5, 0x24C) ∷ (d5 2 6, 0x24D) ∷ (d5 2 7, 0x24E)
+    ∷ (t5 3 1, 0x250) ∷ (t5 3 2, 0x251) ∷ (t5 3 3, 0x252) ∷ (t5 3 4, 0x253) ∷ (t5 3 5, 0x254) ∷ (t5 3 6, 0x255) ∷ (t5 3 7, 0x256) ∷ (critical5 3, 0x0C5)
+    ∷ (d5 3 1, 0x258) ∷ (d5 3 2, 0x259) ∷ (d5 3 3, 0x25A) ∷ (d5 3 4, 0x25B) ∷ (d5 3 5, 0x25C) ∷ (d5 3 6, 0x25D) ∷ (d5 3 7, 0x25E)
+    ∷ (t5 4 1, 0x260) ∷ (t5 4 2, 0x261) ∷ (t5 4 3, 0x262) ∷ (t5 4 4, 0x263) ∷ (t5 4 5, 0x264) ∷ (t5 4 6, 0x265) ∷ (t5 4 7, 0x266) ∷ (critical5 4, 0x0C5)
+    ∷ (d5 4 1, 0x268) ∷ (d5 4 2, 0x269) ∷ (d5 4 3, 0x26A) ∷ (d5 4 4, 0x26B) ∷ (d5 4 5, 0x26C) ∷ (d5 4 6, 0x26D) ∷ (d5 4 7, 0x26E)
+    ∷ (t5 5 1, 0x270) ∷ (t5 5 2, 0x271) ∷ (t5 5 3, 0x272) ∷ (t5 5 4, 0x273) ∷ (t5 5 5, 0x274) ∷ (t5 5 6, 0x275) ∷ (t5 5 7, 0x276) ∷ (critical5 5, 0x0C5)
+    ∷ (d5 5 1, 0x278) ∷ (d5 5 2, 0x279) ∷ (d5 5 3, 0x27A) ∷ (d5 5 4, 0x27B) ∷ (d5 5 5, 0x27C) ∷ (d5 5 6, 0x27D) ∷ (d5 5 7, 0x27E)
+    ∷ (t5 6 1, 0x280) ∷ (t5 6 2, 0x281) ∷ (t5 6 3, 0x282) ∷ (t5 6 4, 0x283) ∷ (t5 6 5, 0x284) ∷ (t5 6 6, 0x285) ∷ (t5 6 7, 0x286) ∷ (critical5 6, 0x0C5)
+    ∷ (d5 6 1, 0x288) ∷ (d5 6 2, 0x289) ∷ (d5 6 3, 0x28A) ∷ (d5 6 4, 0x28B) ∷ (d5 6 5, 0x28C) ∷ (d5 6 6, 0x28D) ∷ (d5 6 7, 0x28E)
+    ∷ (length (tablesOf W83793g), 6) ∷ (length (positions (tableOf W83793g 1)), 15) ∷ (length (positions (tableOf W83793g 6)), 15)
+    -- "Bank 0, 1, 2 Address 00", "2-0 BANK Select"
+    ∷ (sheetOf W83793g .banks .select, 0x00) ∷ (sheetOf W83793g .banks .bits, 0x07)
     -- and no others
     ∷ (length (sheetOf Nct7802y .temperatures), 1) ∷ (length (sheetOf F75373s .temperatures), 0) ∷ (length (sheetOf Nct80 .temperatures), 1)
+    ∷ (length (sheetOf W83793g .temperatures), 0)
     ∷ []
 
 pub registers-stand : So (agree registers)

@@ -10,7 +10,7 @@ use lib.Bits.{bitAnd}
 use lib.Dec.{eqb, leb, ltb}
 use lib.ListN.{length, getD, take, drop}
 use Rattle.pages.specs.declared.Chip.{Chip}
-use Rattle.pages.specs.declared.Chip.the-variants.{Nct7802y, F75373s, Nct80, Nct7904d}
+use Rattle.pages.specs.declared.Chip.the-variants.{Nct7802y, F75373s, Nct80, Nct7904d, W83793g}
 use Rattle.pages.specs.declared.Layout.{Layout}
 use Rattle.pages.specs.declared.Masks.{Masks}
 use Rattle.pages.specs.declared.Required.{Required}
@@ -30,6 +30,10 @@ use Rattle.pages.specs.Nct7904dBank1 as bank1
 use Rattle.pages.specs.Nct7904dBank2 as bank2
 use Rattle.pages.specs.Nct7904dBank3 as bank3
 use Rattle.pages.specs.Nct7904dBank4 as bank4
+use Rattle.pages.specs.W83793g as w83793g
+use Rattle.pages.specs.W83793gBank0 as page0
+use Rattle.pages.specs.W83793gBank1 as page1
+use Rattle.pages.specs.W83793gBank2 as page2
 use Rattle.pages.proofs.Every.{of-every, distinct}
 
 -- addresses rise from a least one on, and are those of an image
@@ -246,11 +250,12 @@ module _ (sheet : Sheet) (t : So (sound sheet)) where
 
 -- the only law that goes by the chip
 tested : (chip : Chip) → So (sound (sheetOf chip))
-unfolding sheetOf sound powerOnIn column nct7802y.card f75373s.card nct80.card nct7904d.card bank0.bank bank1.bank bank2.bank bank3.bank bank4.bank
+unfolding sheetOf sound powerOnIn column nct7802y.card f75373s.card nct80.card nct7904d.card bank0.bank bank1.bank bank2.bank bank3.bank bank4.bank w83793g.card page0.bank page1.bank page2.bank
 tested Nct7802y = refl
 tested F75373s = refl
 tested Nct80 = refl
 tested Nct7904d = refl
+tested W83793g = refl
 
 pub sound-sheet : (chip : Chip) → Sound (sheetOf chip)
 sound-sheet chip = passes (sheetOf chip) (tested chip)

@@ -7,7 +7,7 @@ use lib.Bits.{bitAnd}
 use lib.Dec.{eqb}
 use lib.ListN.{length, getD}
 use Rattle.pages.specs.declared.Chip.{Chip}
-use Rattle.pages.specs.declared.Chip.the-variants.{Nct7802y, F75373s, Nct80, Nct7904d}
+use Rattle.pages.specs.declared.Chip.the-variants.{Nct7802y, F75373s, Nct80, Nct7904d, W83793g}
 use Rattle.pages.specs.declared.Named.{Named}
 use Rattle.pages.specs.declared.Named.the-variants.{Known, Unknown}
 use Rattle.pages.specs.declared.Shape.{Shape}
@@ -22,6 +22,7 @@ use Rattle.pages.specs.Nct7802y as nct7802y
 use Rattle.pages.specs.F75373s as f75373s
 use Rattle.pages.specs.Nct80 as nct80
 use Rattle.pages.specs.Nct7904d as nct7904d
+use Rattle.pages.specs.W83793g as w83793g
 
 -- The page of each chip. Beside the list of chips it is all that goes by the chip: everything else is read off a page.
 unfoldable pub sheetOf : Chip → Sheet
@@ -29,9 +30,10 @@ sheetOf Nct7802y = nct7802y.sheet
 sheetOf F75373s = f75373s.sheet
 sheetOf Nct80 = nct80.sheet
 sheetOf Nct7904d = nct7904d.sheet
+sheetOf W83793g = w83793g.sheet
 
 abbrev pub chips : List Chip
-chips = Nct7802y ∷ F75373s ∷ Nct80 ∷ Nct7904d ∷ []
+chips = Nct7802y ∷ F75373s ∷ Nct80 ∷ Nct7904d ∷ W83793g ∷ []
 
 -- what the named chip gives, or what stands in where none is named
 abbrev pub whenKnown : {A : Type 0} → Named → (Chip → A) → A → A
@@ -54,7 +56,7 @@ abbrev pub tellsNamed : Named → ℕ × ℕ
 tellsNamed (Known chip) = (0, chipNumber chip)
 tellsNamed Unknown = (3, 0)
 
--- refusal 3: "the chip number is not 1, 2 or 3", and "3 admits chip 4"
+-- refusal 3: "the chip number is not 1, 2 or 3", and "3 admits chip 4", "2 admits both marks, 3 chip 5"
 abbrev pub unknown : ℕ → Bool
 unknown number = whenKnown (chipOf number) (λ chip. false) true
 
@@ -78,7 +80,8 @@ fitsAt chip position value = eqb (bitAnd value (rowOf chip position .writable)) 
 abbrev pub powerOn : Chip → List ℕ
 powerOn chip = powerOnIn (sheetOf chip)
 
--- refusal 4 goes by these: "chip 1: 1 to 3; chip 2: 1 and 2; chip 3: none", and "4 counts its tables" of chip 4
+-- refusal 4 goes by these: "chip 1: 1 to 3; chip 2: 1 and 2; chip 3: none", and "4 counts its tables" of chip 4; of chip 5 "4, 8 and 10 follow
+-- document 001"
 abbrev pub tablesOf : Chip → List Table
 tablesOf chip = sheetOf chip .tables
 
@@ -110,7 +113,8 @@ tellsFan Nothing = (4, layout oneBank [] missing)
 abbrev pub sizeOf : Chip → ℕ
 sizeOf chip = sheetOf chip .size
 
--- refusal 8: "a register image is not 256 bytes long"; of chip 4 "8 asks its own image length". A number that names no chip has been refused 3 before
+-- refusal 8: "a register image is not 256 bytes long"; of chip 4 "8 asks its own image length", and of chip 5 "4, 8 and 10 follow document 001". A number
+-- that names no chip has been refused 3 before
 abbrev pub notOfSize : ℕ → ℕ → Bool
 notOfSize chip size = not (eqb size (whenKnown (chipOf chip) sizeOf 0))
 

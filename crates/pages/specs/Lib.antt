@@ -10,6 +10,10 @@ pub mod Nct7904dBank2
 pub mod Nct7904dBank3
 pub mod Nct7904dBank4
 pub mod Nct7904d
+pub mod W83793gBank0
+pub mod W83793gBank1
+pub mod W83793gBank2
+pub mod W83793g
 pub mod Cards
 pub mod Identity
 pub mod Contracts

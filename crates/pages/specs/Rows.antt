@@ -95,9 +95,13 @@ eachFrom f first (suc n) = f first ∷ eachFrom f (suc first) n
 abbrev pub from : ℕ → ℕ → List ℕ
 from first n = eachFrom (λ position. position) first n
 
+-- some bits may be written, and none clears on one
+abbrev pub maskOf : ℕ → Masks
+maskOf bits = record { writable = bits; clears = 0x00 }
+
 -- every bit may be written, "mask FFh"
 abbrev pub everyBit : Masks
-everyBit = record { writable = 0xFF; clears = 0x00 }
+everyBit = maskOf 0xFF
 
 -- registers in a row that have the same masks, and each of them
 abbrev pub stretch : ℕ → ℕ → Masks → Stretch

@@ -37,7 +37,7 @@ mostWrites = 25
 
 pub record Sheet : Type 0 where
   -- "Chip 1 is the Nuvoton NCT7802Y (source document 000), chip 2 the Fintek F75373S (002), chip 3 the onsemi NCT80 (004)"; the NCT7904D (003) is
-  -- "chip 4"
+  -- "chip 4", and "chip 5, the W83793G" (001)
   pub number : ℕ
   -- how many bytes its image has
   pub size : ℕ

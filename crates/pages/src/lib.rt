@@ -9,6 +9,7 @@ pub enum Chip {
     F75373s,
     Nct80,
     Nct7904d,
+    W83793g,
 }
 
 // What a chip number names.
