@@ -173,25 +173,24 @@ settings-encode true n [] h = absurd (omega arith)
 settings-encode true n (b ∷ bytes) h = refl
 settings-encode false n bytes h = sym (take-suc bytes n 0 h)
 
+pub settings-taken : (leading : Bool) (n : ℕ) (bytes : List ℕ) → n ≤ mostPoints → n < length bytes
+    → cond leading (getD bytes (cond leading 0 n) 0 ∷ take n (pointsIn n (cond leading 1 0) bytes))
+    (take n (pointsIn n (cond leading 1 0) bytes) ++ (getD bytes (cond leading 0 n) 0 ∷ []))
+    ≡ take (n + 1) bytes
+settings-taken true n bytes p h =
+    ap (λ (ts : List ℕ). getD bytes 0 0 ∷ ts) (points-taken n 1 bytes p (omega arith))
+    ∙ settings-encode true n bytes h ∙ ap (λ (k : ℕ). take k bytes) (sym (add-one n))
+settings-taken false n bytes p h =
+    ap (λ (ts : List ℕ). ts ++ (getD bytes n 0 ∷ [])) (points-taken n 0 bytes p (omega arith))
+    ∙ settings-encode false n bytes h ∙ ap (λ (k : ℕ). take k bytes) (sym (add-one n))
+
 slope-encode : (leading : Bool) (n : ℕ) (bytes : List ℕ) → n ≤ mostPoints → n + 1 + n ≤ length bytes
     → slopeBody leading n (slopeIn leading n bytes .temperatures) (slopeIn leading n bytes .critical) (slopeIn leading n bytes .duties)
     ≡ take (n + 1 + n) bytes
 slope-encode leading n bytes p h =
-    let one = add-one n in
     let duties = points-taken n (n + 1) bytes p h in
-    ap₂ (λ (settings ds : List ℕ). settings ++ ds) (by-lead leading) duties
+    ap₂ (λ (settings ds : List ℕ). settings ++ ds) (settings-taken leading n bytes p (omega arith)) duties
     ∙ sym (take-add (n + 1) n bytes)
-  where
-    by-lead : (lead : Bool)
-        → cond lead (getD bytes (cond lead 0 n) 0 ∷ take n (pointsIn n (cond lead 1 0) bytes))
-        (take n (pointsIn n (cond lead 1 0) bytes) ++ (getD bytes (cond lead 0 n) 0 ∷ []))
-        ≡ take (n + 1) bytes
-    by-lead true =
-        ap (λ (ts : List ℕ). getD bytes 0 0 ∷ ts) (points-taken n 1 bytes p (omega arith))
-        ∙ settings-encode true n bytes (omega arith) ∙ ap (λ (k : ℕ). take k bytes) (sym (add-one n))
-    by-lead false =
-        ap (λ (ts : List ℕ). ts ++ (getD bytes n 0 ∷ [])) (points-taken n 0 bytes p (omega arith))
-        ∙ settings-encode false n bytes (omega arith) ∙ ap (λ (k : ℕ). take k bytes) (sym (add-one n))
 
 pub encode-decode : (leading : Bool) (shape : Shape) (chip table points : ℕ) (bytes : List ℕ) → Roomy shape
     → room shape .0 + room shape .1 ≤ length bytes → ((k : ℕ) → getD bytes k 0 < 256)

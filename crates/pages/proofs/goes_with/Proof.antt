@@ -5,7 +5,7 @@ use Rattle.pages.proofs.goes_with.Statement.{statement}
 use Rattle.pages.proofs.goes_with.Tie as tie
 
 returns : tie.Need-returns
-returns c = record { answer = rw (c .if1 .taken) }
+returns c = record { answer = rw (c .before .if1 .taken) }
 
 returns-2 : tie.Need-returns-2
 returns-2 c = search needs

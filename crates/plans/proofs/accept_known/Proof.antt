@@ -9,7 +9,7 @@ use borrow.Author.Needs.{needs}
 use lib.ListN.{length-append}
 use Rattle.pages.specs.declared.Chip.{Chip}
 use Rattle.pages.specs.declared.Layout.{Layout}
-use Rattle.pages.specs.Sheets.{longest}
+use Rattle.pages.specs.Sheets.{longest, goesWith}
 use Rattle.pages.specs.Cards.{hasTable, tableOf, layoutOf}
 use Rattle.pages.proofs.Tables.{table-short}
 use Rattle.cards.proofs.Told.{table-found, table-missed}
@@ -17,7 +17,7 @@ use Rattle.curves.specs.declared.Plan.{Plan}
 use Rattle.curves.specs.Values.{Typed}
 use Rattle.curves.proofs.Owned.{plan-typed}
 use Rattle.plans.specs.declared.tables.Fitting.{Fitting}
-use Rattle.plans.specs.Plans.{temperaturesPass, speedsPass}
+use Rattle.plans.specs.Plans.{pointsPass, temperaturesPass, speedsPass}
 use Rattle.plans.proofs.Fits.{temperatures-pass, speeds-pass}
 use Rattle.plans.proofs.accept_known.Statement.{statement}
 use Rattle.plans.proofs.accept_known.Tie as tie
@@ -53,20 +53,28 @@ registers c =
 
 -- what its values are told of
 temperatures : (c : tie.After-temperatures-in-order)
-    → (c .temperatures-in-order .result && c .before .fit .result .settings) ≡ temperaturesPass (chip (c .before .before)) (plan (c .before .before))
+    → (let f = c .before .before .before .before in
+    (c .temperatures-in-order .result && c .before .fit .result .settings) ≡ temperaturesPass (chip f) (plan f))
 temperatures c =
-    let f = c .before .before in
+    let f = c .before .before .before .before in
     ap₂ _&&_ (c .temperatures-in-order .ensures .answer) (ap (λ (r : Fitting). r .settings) (c .before .fit .ensures))
     ∙ temperatures-pass (chip f) (plan f) (typed f) (found f .0) (layout f) (found f .1)
 
 speeds : (c : tie.After-speeds-in-order)
-    → (c .speeds-in-order .result && c .before .before .before .before .fit .result .speeds)
-    ≡ speedsPass (chip (c .before .before .before .before .before)) (plan (c .before .before .before .before .before))
+    → (let asked = c .before .before .before .before in
+    let f = asked .before .before .before in
+    (c .speeds-in-order .result && asked .fit .result .speeds) ≡ speedsPass (chip f) (plan f))
 speeds c =
     let asked = c .before .before .before .before in
-    let f = asked .before in
+    let f = asked .before .before .before in
     ap₂ _&&_ (c .speeds-in-order .ensures .answer) (ap (λ (r : Fitting). r .speeds) (asked .fit .ensures))
     ∙ speeds-pass (chip f) (plan f) (typed f) (found f .0) (layout f) (found f .1)
+
+points : (c : tie.After-goes-with) → c .goes-with .result ≡ pointsPass (chip (c .before)) (plan (c .before))
+unfolding pointsPass
+points c =
+    let f = c .before in
+    c .goes-with .ensures .answer ∙ ap (λ (l : Layout). goesWith l (plan f .points)) (found f .1)
 
 table-of-requires : tie.Need-table-of-requires
 table-of-requires c κs = search needs
@@ -80,31 +88,52 @@ enum-told c = search needs
 returns : tie.Need-returns
 returns c = rw (table-missed (c .before .before .table-of .ensures) (c .enum-told .given .1))
 
+goes-with-requires : tie.Need-goes-with-requires
+goes-with-requires c κs = search needs
+
+returns-2 : tie.Need-returns-2
+returns-2 c =
+    let g = c .before in
+    rw (found (g .before) .0, sym (points g) ∙ not-true _ (c .if1 .taken))
+
 fit-requires : tie.Need-fit-requires
-fit-requires c κs = registers c
+fit-requires c κs = registers (c .before .before)
 
 temperatures-in-order-requires : tie.Need-temperatures-in-order-requires
 temperatures-in-order-requires c κs = search needs
 
-returns-2 : tie.Need-returns-2
-returns-2 c =
+returns-3 : tie.Need-returns-3
+returns-3 c =
     let t = c .before .before in
-    rw (found (t .before .before) .0, sym (temperatures t) ∙ not-true _ (c .if1 .taken))
+    let g = t .before .before .before in
+    rw (found (g .before) .0, sym (points g) ∙ not-false _ (t .before .before .if1 .left), sym (temperatures t) ∙ not-true _ (c .if2 .taken))
 
 speeds-in-order-requires : tie.Need-speeds-in-order-requires
 speeds-in-order-requires c κs = search needs
-
-returns-3 : tie.Need-returns-3
-returns-3 c =
-    let v = c .before .before in
-    let t = v .before .before .before in
-    rw (found (t .before .before) .0, sym (temperatures t) ∙ not-false _ (v .before .if1 .left), sym (speeds v) ∙ not-true _ (c .if2 .taken))
 
 returns-4 : tie.Need-returns-4
 returns-4 c =
     let v = c .before .before in
     let t = v .before .before .before in
-    rw (found (t .before .before) .0, sym (temperatures t) ∙ not-false _ (v .before .if1 .left), sym (speeds v) ∙ not-false _ (c .if2 .left))
+    let g = t .before .before .before in
+    rw (
+      found (g .before) .0,
+      sym (points g) ∙ not-false _ (t .before .before .if1 .left),
+      sym (temperatures t) ∙ not-false _ (v .before .if2 .left),
+      sym (speeds v) ∙ not-true _ (c .if3 .taken),
+    )
+
+returns-5 : tie.Need-returns-5
+returns-5 c =
+    let v = c .before .before in
+    let t = v .before .before .before in
+    let g = t .before .before .before in
+    rw (
+      found (g .before) .0,
+      sym (points g) ∙ not-false _ (t .before .before .if1 .left),
+      sym (temperatures t) ∙ not-false _ (v .before .if2 .left),
+      sym (speeds v) ∙ not-false _ (c .if3 .left),
+    )
 
 pub accept-known-spec : {M : Type 1} → statement M
 accept-known-spec =
@@ -114,9 +143,11 @@ accept-known-spec =
     enum-known-layout
     enum-told
     returns
+    goes-with-requires
+    returns-2
     fit-requires
     temperatures-in-order-requires
-    returns-2
-    speeds-in-order-requires
     returns-3
-    returns-4)
+    speeds-in-order-requires
+    returns-4
+    returns-5)

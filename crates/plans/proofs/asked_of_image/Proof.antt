@@ -8,7 +8,7 @@ use Rattle.pages.specs.declared.Layout.{Layout}
 use Rattle.pages.specs.declared.Register.{Register}
 use Rattle.pages.specs.declared.Sizes.{Sizes}
 use Rattle.pages.specs.Rows.{column, standsAt}
-use Rattle.pages.specs.Sheets.{registerIn}
+use Rattle.pages.specs.Sheets.{longest, registerIn}
 use Rattle.pages.specs.Cards.{sheetOf}
 use Rattle.pages.proofs.Tables.{table-ground}
 use Rattle.cards.proofs.Told.{table-found, table-missed}
@@ -59,6 +59,9 @@ ground-of-requires c κs = search needs
 held-requires : tie.Need-held-requires
 held-requires c κs = search needs
 
+slice-aggregate-plan-of : tie.Need-slice-aggregate-plan-of
+slice-aggregate-plan-of c = search needs
+
 plan-of-requires : tie.Need-plan-of-requires
 plan-of-requires c κs = search needs
 
@@ -77,7 +80,7 @@ returns-3 c =
 
 returns-4 : tie.Need-returns-4
 returns-4 c =
-    let h = c .before .before in
+    let h = c .before .before .before in
     let p = h .before in
     let s = p .before .before .before in
     let l = s .before .before in
@@ -89,17 +92,17 @@ returns-4 c =
     let found = table-found _ (f .table-of .ensures) (l .layout .given .1) in
     let long = ap (λ (z : Sizes). z .image) (s .sizes-of .ensures .answer) in
     let shape = l .layout .given .0 .0 .shape in
-    let bytes = column 14 (λ k. worthAt (registerIn (sheetOf known) (a .table) k) (a .image .now)) in
+    let bytes = column longest (λ k. worthAt (registerIn (sheetOf known) (a .table) k) (a .image .now)) in
     let there = ap standsAt (p .ground-of .ensures .answer) ∙ table-ground known (a .table) in
-    let held = h .held .ensures ∙ ap (λ (at : ℕ → Register). column 14 (λ k. worthAt (at k) (a .image .now))) there in
-    let plan : c .before .plan-of .result ≡ decoded false shape (a .chip) (a .table) bytes =
-    c .before .plan-of .ensures .answer ∙ ap (decoded false shape (a .chip) (a .table)) held in
+    let held = h .held .ensures ∙ ap (λ (at : ℕ → Register). column longest (λ k. worthAt (at k) (a .image .now))) there in
+    let plan : c .before .plan-of .result ≡ decoded false shape (a .chip) (a .table) 0 bytes =
+    c .before .plan-of .ensures .answer ∙ ap (decoded false shape (a .chip) (a .table) 0) held in
     record {
       answer = rw (e, found .0, eq-eqb _ _ (p .before .if1 .left ∙ long))
           (ap (λ (speed : ℕ). (0, speed))
           (c .speed-of .ensures .answer
           ∙ ap (λ (p : Plan). asks shape (planned shape p) (a .t)) plan
-          ∙ ap (λ (f : Layout). asks (f .shape) (planned (f .shape) (decoded false (f .shape) (a .chip) (a .table) bytes)) (a .t)) (found .1)
+          ∙ ap (λ (f : Layout). asks (f .shape) (planned (f .shape) (decoded false (f .shape) (a .chip) (a .table) 0 bytes)) (a .t)) (found .1)
           ∙ registers-ask known (a .chip) (a .table) (a .image .now) (a .t) (found .0)));
     }
 
@@ -117,6 +120,7 @@ asked-of-image-spec =
     returns
     ground-of-requires
     held-requires
+    slice-aggregate-plan-of
     plan-of-requires
     speed-of-requires
     returns-2

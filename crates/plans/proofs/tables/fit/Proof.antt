@@ -4,13 +4,15 @@ use Prim.Native.Nat.{ℕ, _+_, _-_, _≤_}
 use native.Mathlib.Omega.{arith}
 use mathlib.Core.Path.{_≡_, ap, ap₂, _∙_}
 use mathlib.Core.List.{List}
+use lib.ListN.{getD}
 use Rattle.pages.specs.declared.Register.{Register}
-use Rattle.pages.specs.Rows.{standsAt}
+use Rattle.pages.specs.Rows.{column, standsAt}
 use Rattle.pages.specs.Sheets.{longest, registerIn}
 use Rattle.pages.specs.Cards.{sheetOf}
 use Rattle.pages.proofs.Tables.{table-ground}
 use Rattle.curves.specs.Planned.{planned}
 use Rattle.bodies.specs.Bodies.{body}
+use Rattle.bodies.proofs.Laws.{plain-body}
 use Rattle.plans.specs.Parts.{fitFrom}
 use Rattle.plans.proofs.Fits.{fit-column}
 use borrow.Author.Needs.{needs}
@@ -27,7 +29,8 @@ asked c place to n e h =
     let register = registerIn (sheetOf (a .chip)) (a .plan .table) in
     let there = ap standsAt (c .ground-of .ensures .answer) ∙ table-ground (a .chip) (a .plan .table) in
     ap (λ (at : ℕ → Register). fitFrom at (c .before .body-of .result) place (to - place)) there
-    ∙ ap₂ (λ (bytes : List ℕ) (k : ℕ). fitFrom register bytes place k) ((c .before .body-of .ensures .answer ∙ ap (λ (l : List ℕ). column longest (λ k. getD l k 0)) (plain-body (a .layout .shape) (a .plan))) e
+    ∙ ap₂ (λ (bytes : List ℕ) (k : ℕ). fitFrom register bytes place k)
+    (c .before .body-of .ensures .answer ∙ ap (λ (l : List ℕ). column longest (λ k. getD l k 0)) (plain-body (a .layout .shape) (a .plan))) e
     ∙ fit-column register (body (planned (a .layout .shape) (a .plan))) place n (omega arith)
 
 returns : tie.Need-returns
