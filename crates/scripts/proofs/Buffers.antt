@@ -1,4 +1,4 @@
--- What a caller knows who asked for a script into 48 bytes: only the plan can be refused there, and the bytes give back the script's pairs.
+-- What a caller knows who asked for a script into a buffer that holds each: only the plan can be refused there, and the bytes give back the script's pairs.
 -- Assumes nothing.
 use Prim.Native.Nat.{ℕ, zero, suc, _+_, _*_, _≤_, _<_}
 use native.Mathlib.Nat.{le-of-suc-le-suc, not-suc-le-zero}
@@ -17,6 +17,7 @@ use Rattle.refusal.proofs.Passed.{told-passed}
 use Rattle.refusal.specs.declared.Amount.{Amount}
 use Rattle.refusal.specs.declared.Amount.the-variants as amount
 use Rattle.refusal.specs.Answers.{tellsAmount}
+use Rattle.pages.specs.Sheets.{mostWrites}
 use Rattle.curves.specs.declared.Plan.{Plan}
 use Rattle.plans.specs.Contracts.{planChecks}
 use Rattle.scripts.specs.Scripts.{Pair, flat, pairsIn, scriptFor}
@@ -40,7 +41,7 @@ pairs-flat ps rest (suc n) h =
     ap₂ (λ (l : List Pair) (w : Pair). l ++ (w ∷ [])) (pairs-flat ps rest n (omega arith)) (flat-at ps rest n h)
     ∙ sym (take-suc ps n (0, 0) h)
 
-module _ {plan : Plan} {old bytes : List ℕ} {r : Amount} (short : first (planChecks plan) ≡ 0 → length (scriptFor plan) ≤ 24) (room : length old ≡ 48)
+module _ {plan : Plan} {old bytes : List ℕ} {r : Amount} (short : first (planChecks plan) ≡ 0 → length (scriptFor plan) ≤ mostWrites) (room : length old ≡ 2 * mostWrites)
     (s : Scripts plan old r bytes) where
   judged : first (scriptChecks plan old) ≡ first (planChecks plan)
   judged =

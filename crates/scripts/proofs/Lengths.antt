@@ -1,27 +1,30 @@
 -- A script has as many writes as the paper says: one for each speed, then one for each register.
 -- Assumes nothing.
-use Prim.Native.Nat.{ℕ, _+_, _≤_}
+use Prim.Native.Nat.{ℕ, _+_, _*_, _≤_}
 use native.Mathlib.Nat.{not-suc-le-zero}
 use native.Mathlib.Omega.{arith}
 use mathlib.Core.Path.{_≡_, refl, sym, ap, _∙_}
 use mathlib.Core.Bool.{So}
 use mathlib.Core.List.{List, [], _∷_, _++_, map}
-use borrow.Author.Tests.{not-false}
+use borrow.Author.Tests.{leb-true, not-false}
+use lib.Dec.{leb}
 use lib.ListN.{length, length-append, length-map}
 use Rattle.refusal.specs.Checks.{first}
 use Rattle.refusal.specs.declared.Amount.the-variants as amount
 use Rattle.refusal.proofs.Passed.{all-passed, when-passed}
 use Rattle.pages.specs.declared.Chip.{Chip}
-use Rattle.pages.specs.declared.Chip.the-variants.{Nct7802y, F75373s, Nct7904d}
+use Rattle.pages.specs.declared.Chip.the-variants.{Nct7802y, F75373s, Nct7904d, W83793g}
 use Rattle.pages.specs.declared.Named.the-variants.{Known}
 use Rattle.pages.specs.declared.Shape.{Shape}
 use Rattle.pages.specs.declared.Shape.the-variants.{Slope, Steps}
 use Rattle.pages.specs.Banks.{noBank}
 use Rattle.pages.specs.Rows.{Table}
-use Rattle.pages.specs.Sheets.{room}
+use Rattle.pages.specs.Sheets.{mostPoints, longest, room}
 use Rattle.pages.specs.Cards.{sheetOf, chipOf, banksOf, hasTable, tableOf, shapeOf, layoutOf}
+use Rattle.pages.proofs.Every.{both}
+use Rattle.pages.proofs.Sound.{counts}
 use Rattle.pages.proofs.Selectors.{selects-most}
-use Rattle.pages.proofs.Tables.{table-laid, table-short, table-sized}
+use Rattle.pages.proofs.Tables.{table-pointed, table-laid, table-short, table-sized}
 use Rattle.curves.specs.declared.Plan.{Plan}
 use Rattle.curves.specs.Orders.{fulls}
 use Rattle.curves.specs.Planned.{Curve, fullOf}
@@ -32,14 +35,15 @@ use Rattle.scripts.specs.Contracts.{scriptChecks, Scripts}
 use Rattle.scripts.proofs.Bus.{bus-length}
 use Rattle.scripts.proofs.Prepared.{load-writes}
 
-room-some : (shape : Shape) → 1 ≤ room shape .1
-room-some (Slope full) = omega arith
-room-some Steps = omega arith
+room-some : (shape : Shape) → So (counts shape) → 1 ≤ room shape .1
+room-some (Slope points full) t = omega (arith, leb-true 2 points (both (leb 2 points) (leb points mostPoints) t .0))
+room-some Steps t = omega arith
 
--- "13 writes", "24 writes", and of chip 4 one more than of chip 1: its script "goes as chip 1's, but selects a bank before the first write"
-pub script-lengths : (scriptLength Nct7802y ≡ 13) × (scriptLength F75373s ≡ 24) × (scriptLength Nct7904d ≡ 14)
+-- "13 writes", "24 writes"; of chip 4 one more than of chip 1: its script "goes as chip 1's, but selects a bank before the first write"; and of chip 5
+-- seven points and three selects, "critical may lie in another bank than the points"
+pub script-lengths : (scriptLength Nct7802y ≡ 13) × (scriptLength F75373s ≡ 24) × (scriptLength Nct7904d ≡ 14) × (scriptLength W83793g ≡ 25)
 unfolding sheetOf
-script-lengths = (refl, refl, refl)
+script-lengths = (refl, refl, refl, refl)
 
 -- as many as a plan's script has, by its table ..
 pub script-of-table : (chip : Chip) (plan : Plan) → Sized plan → length (scriptOf chip plan) ≡ writesIn (layoutOf chip (plan .table))
@@ -65,7 +69,7 @@ script-some chip plan has =
     let table = tableOf chip (plan .table) in
     let curve = plannedFor chip plan in
     let full = fullOf (shapeOf chip (plan .table)) in
-    let speeds : 1 ≤ length (table .speeds) = omega (arith, table-sized chip (plan .table) has .1, room-some (shapeOf chip (plan .table))) in
+    let speeds : 1 ≤ length (table .speeds) = omega (arith, table-sized chip (plan .table) has .1, room-some (shapeOf chip (plan .table)) (table-pointed chip (plan .table))) in
     omega (arith, bus-length chip (placements chip plan), some-writes full table curve speeds)
 
 -- "The answer says how many writes."
@@ -83,7 +87,7 @@ writes-short [] bytes = omega arith
 writes-short (r ∷ rs) [] = omega arith
 writes-short (r ∷ rs) (b ∷ bs) = omega (arith, writes-short rs bs)
 
-placements-short : (chip : Chip) (plan : Plan) → length (placements chip plan) ≤ 28
+placements-short : (chip : Chip) (plan : Plan) → length (placements chip plan) ≤ 2 * longest
 unfolding placements
 placements-short chip plan =
     let settings = tableOf chip (plan .table) .settings in
@@ -101,8 +105,8 @@ placements-short chip plan =
       length-append settings speeds,
     )
 
--- so no script has more than 56, whatever its plan holds: a select for each at the most
-pub script-short : (chip : Chip) (plan : Plan) → length (scriptOf chip plan) ≤ 56
+-- so no script has more than twice as many, whatever its plan holds: a select for each at the most
+pub script-short : (chip : Chip) (plan : Plan) → length (scriptOf chip plan) ≤ 4 * longest
 script-short chip plan =
     omega (
       arith,

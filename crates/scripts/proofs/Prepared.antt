@@ -15,7 +15,7 @@ use Rattle.pages.specs.declared.Masks.{Masks}
 use Rattle.pages.specs.declared.Register.{Register}
 use Rattle.pages.specs.Banks.{noBank, ready, selectsFrom}
 use Rattle.pages.specs.Rows.{every, Table, masksIn, positions, rowIn, standsAt}
-use Rattle.pages.specs.Sheets.{missing, loaded, selectorIn, registerIn}
+use Rattle.pages.specs.Sheets.{longest, missing, loaded, selectorIn, registerIn}
 use Rattle.pages.specs.Cards.{sheetOf, cardOf, banksOf, rowOf, hasTable, tableOf, shapeOf}
 use Rattle.pages.proofs.Every.{both, every-append}
 use Rattle.pages.proofs.Columns.{column-length, column-at}
@@ -39,8 +39,8 @@ use Rattle.scripts.proofs.Bus.{Standing, standing-append, laid-append}
 use Rattle.scripts.proofs.Pairs.{nothing, script-length, script-registers, raised-at, body-at}
 use Rattle.scripts.proofs.Walk.{Describes, walk-length, walk-turns, walk-pairs}
 
-pub body-long : (chip : Chip) (plan : Plan) {bytes : List ℕ} → bytes ≡ loadedBytes chip plan → length bytes ≡ 14
-body-long chip plan e = ap length e ∙ column-length 14 (λ k. getD (body (plannedFor chip plan)) k 0)
+pub body-long : (chip : Chip) (plan : Plan) {bytes : List ℕ} → bytes ≡ loadedBytes chip plan → length bytes ≡ longest
+body-long chip plan e = ap length e ∙ column-length longest (λ k. getD (body (plannedFor chip plan)) k 0)
 
 -- writes that stand in a table's registers stand where the bus reaches them
 writes-stand : (chip : Chip) (ps bs : List ℕ) → So (every (stands (sheetOf chip)) ps) → Standing chip (writes ps bs)
@@ -83,7 +83,7 @@ module _ (chip : Chip) (plan : Plan) where
       (writes-stand chip (table .settings) (curve .settings) (whole .0)) (writes-stand chip (table .speeds) (curve .speeds) (whole .1)))
 
   -- no more registers than a body has bytes
-  registers-short : s + v ≤ 14
+  registers-short : s + v ≤ longest
   registers-short = omega (arith, table-short chip (plan .table), length-append (table .settings) (table .speeds))
 
   -- a register of the load is that of the table
@@ -109,7 +109,7 @@ module _ (chip : Chip) (plan : Plan) where
             let j : k - v < s + v = omega arith in
             let whole : v + (k - v) ≡ k = omega arith in
             let short = registers-short in
-            let byte = column-at 14 (λ n. getD (body curve) n 0) (k - v) (omega arith) in
+            let byte = column-at longest (λ n. getD (body curve) n 0) (k - v) (omega arith) in
             rw t
             (ap₂ (λ (p b : ℕ). (p, b)) (loaded-position (k - v)) byte
             ∙ sym (body-at (fullOf (shapeOf chip (plan .table))) table curve es ev (k - v) j)

@@ -13,7 +13,7 @@ use Rattle.pages.specs.declared.Chip.{Chip}
 use Rattle.pages.specs.declared.Register.{Register}
 use Rattle.pages.specs.Banks.{noBank, ready}
 use Rattle.pages.specs.Rows.{column, standsAt}
-use Rattle.pages.specs.Sheets.{selectorIn}
+use Rattle.pages.specs.Sheets.{longest, selectorIn}
 use Rattle.pages.specs.Cards.{sheetOf, tableOf, shapeOf, layoutOf, groundOf}
 use Rattle.images.specs.Bytes.{storedAt}
 use Rattle.curves.specs.declared.Plan.{Plan}
@@ -83,8 +83,8 @@ madeOf l bytes (suc n) image =
 
 -- no more registers than the longest body has bytes, and as many selects as come between them, each of a bank whose number is a byte
 pub record Short (l : Load) : Type 0 where
-  pub registers : l .settings + l .speeds ≤ 14
-  pub selects : l .selects ≤ 28
+  pub registers : l .settings + l .speeds ≤ longest
+  pub selects : l .selects ≤ 2 * longest
   pub turns : (n : ℕ) → n < writesOf l → cursorAt l n .next < registersOf l
   pub banks : (k : ℕ) → bankOf l k < 2 ^ 8
 
@@ -102,7 +102,7 @@ loadOf chip plan =
 
 -- .. and the bytes that go there, with zeros behind them
 abbrev pub loadedBytes : Chip → Plan → List ℕ
-loadedBytes chip plan = column 14 (λ k. getD (body (plannedFor chip plan)) k 0)
+loadedBytes chip plan = column longest (λ k. getD (body (plannedFor chip plan)) k 0)
 
 -- all pairs at the front of a buffer, or none
 pub record PutsPairs (l : Load) (bytes old : List ℕ) (r : Amount) (new : List ℕ) : Type 0 where

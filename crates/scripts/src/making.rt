@@ -11,6 +11,7 @@ ghost use mathlib.Core.Path.{_≡_};
 ghost use mathlib.Core.Bool.{true, cond};
 ghost use lib.Dec.{eqb};
 ghost use lib.ListN.{length};
+ghost use Rattle.pages.specs.Sheets.{longest};
 ghost use Rattle.scripts.specs.Making.{Short, registersOf, writesOf, placeAt, byteAt, stepped, writeFrom, loadOf, loadedBytes};
 
 // A fan table that is loaded: where it stands, how many settings and speeds it has, the full byte, and the selects.
@@ -67,7 +68,7 @@ impl Load {
     // The byte that it takes, from a plan's body.
     fn byte(self, body: &[u8], k: usize) -> u8
         requires { ⌜ Short self ⌝ }
-        requires { ⌜ length (now body) ≡ 14 ⌝ }
+        requires { ⌜ length (now body) ≡ longest ⌝ }
         requires { ⌜ k < registersOf self ⌝ }
         ensures { λ r. ⌜ r ≡ byteAt self (now (body .entry)) k ⌝ }
     {
@@ -80,7 +81,7 @@ impl Load {
     // The next write: the next register's, or a select of its bank before it.
     pub(crate) fn turn(self, body: &[u8], cursor: Cursor) -> Turn
         requires { ⌜ Short self ⌝ }
-        requires { ⌜ length (now body) ≡ 14 ⌝ }
+        requires { ⌜ length (now body) ≡ longest ⌝ }
         requires { ⌜ cursor .next < registersOf self ⌝ }
         ensures { λ r. ⌜ (r .write ≡ writeFrom self (now (body .entry)) cursor) × (r .cursor ≡ stepped self cursor) ⌝ }
     {

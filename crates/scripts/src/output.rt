@@ -7,6 +7,7 @@ use refusal::Refusal;
 ghost use Prim.Native.Nat.{_+_, _%_, _<_};
 ghost use mathlib.Core.Path.{_≡_};
 ghost use lib.ListN.{length, set};
+ghost use Rattle.pages.specs.Sheets.{longest};
 ghost use Rattle.scripts.specs.Making.{Short, PutsPairs};
 
 // Puts a pair at a place of the buffer, and answers the place behind it. A register's address is its place in its bank's page.
@@ -22,7 +23,7 @@ fn put(write: Write, out: &mut [u8], at: usize) -> usize
 
 pub(crate) fn put_all(load: Load, body: &[u8], out: &mut [u8]) -> Amount
     requires { ⌜ Short load ⌝ }
-    requires { ⌜ length (now body) ≡ 14 ⌝ }
+    requires { ⌜ length (now body) ≡ longest ⌝ }
     ensures { λ r. ⌜ PutsPairs load (now (body .entry)) (now (out .entry)) r (now (out .exit)) ⌝ }
 {
     let writes = load.length();

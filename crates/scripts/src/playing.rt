@@ -4,6 +4,7 @@ use crate::making::START;
 ghost use Prim.Native.Nat.{_≤_, min};
 ghost use mathlib.Core.Path.{_≡_};
 ghost use lib.ListN.{length};
+ghost use Rattle.pages.specs.Sheets.{longest};
 ghost use Rattle.scripts.specs.Making.{Short, writesOf, madeOf};
 
 pub(crate) fn least(a: usize, b: usize) -> usize
@@ -14,7 +15,7 @@ pub(crate) fn least(a: usize, b: usize) -> usize
 
 pub(crate) fn make_all(load: Load, body: &[u8], writes: usize, image: &mut [u8])
     requires { ⌜ Short load ⌝ }
-    requires { ⌜ length (now body) ≡ 14 ⌝ }
+    requires { ⌜ length (now body) ≡ longest ⌝ }
     requires { ⌜ writes ≤ writesOf load ⌝ }
     ensures { λ r. ⌜ now (image .exit) ≡ madeOf load (now (body .entry)) writes (now (image .entry)) ⌝ }
 {
