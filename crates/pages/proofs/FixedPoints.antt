@@ -70,7 +70,7 @@ points =
     -- "Chip 3, 00h mask FFh, power-on 08h; 01h read only; 09h mask 07h"
     ∷ (writable Nct80 0x00, 0xFF) ∷ (power Nct80 0x00, 0x08) ∷ (writable Nct80 0x01, 0x00) ∷ (clears Nct80 0x01, 0x00)
     ∷ (writable Nct80 0x09, 0x07)
-    -- "All fan table registers have mask FFh"; of chip 5 temperatures have bits 6 to 0, and duties bits 5 to 0
+    -- "All fan table registers have mask FFh"; of chip 5 temperatures have bits "6-0" and duties bits "5-0", by source document 001
     ∷ tableMasks Nct7802y 0xFF 0xFF (tablesOf Nct7802y)
     ++ (tableMasks F75373s 0xFF 0xFF (tablesOf F75373s)
     ++ (tableMasks Nct7904d 0xFF 0xFF (tablesOf Nct7904d) ++ tableMasks W83793g 0x7F 0x3F (tablesOf W83793g)))

@@ -124,8 +124,8 @@ registers =
     ∷ (length (sheetOf Nct7904d .temperatures), 13)
     -- 7.1.30: "Address FF", "2-0 BANK_SEL[2:0]"
     ∷ (sheetOf Nct7904d .banks .select, 0xFF) ∷ (sheetOf Nct7904d .banks .bits, 0x07)
-    -- chip 5, source document 001, 8.11: "TD1Level01 - Bank 2 Address 30" to "TR2Level67 - Bank 2 Address 86", "TD1FanLevel0 - Bank 2 Address 38" to
-    -- "TR2FanLevel6 - Bank 2 Address 8E"; "CriticalTemp - Bank 0 Address C5" of all six
+    -- chip 5, source document 001, 8.11.2.17: "TD1Level01 - Bank 2 Address 30" to "TR2Level67 - Bank 2 Address 86"; 8.11.2.18: "TD1FanLevel0 - Bank 2
+    -- Address 38" to "TR2FanLevel6 - Bank 2 Address 8E"; 8.11.2.9: "CriticalTemp - Bank 0 Address C5", "All Fan Full Speed Temperature"
     ∷ (t5 1 1, 0x230) ∷ (t5 1 2, 0x231) ∷ (t5 1 3, 0x232) ∷ (t5 1 4, 0x233) ∷ (t5 1 5, 0x234) ∷ (t5 1 6, 0x235) ∷ (t5 1 7, 0x236) ∷ (critical5 1, 0x0C5)
     ∷ (d5 1 1, 0x238) ∷ (d5 1 2, 0x239) ∷ (d5 1 3, 0x23A) ∷ (d5 1 4, 0x23B) ∷ (d5 1 5, 0x23C) ∷ (d5 1 6, 0x23D) ∷ (d5 1 7, 0x23E)
     ∷ (t5 2 1, 0x240) ∷ (t5 2 2, 0x241) ∷ (t5 2 3, 0x242) ∷ (t5 2 4, 0x243) ∷ (t5 2 5, 0x244) ∷ (t5 2 6, 0x245) ∷ (t5 2 7, 0x246) ∷ (critical5 2, 0x0C5)

@@ -20,7 +20,7 @@ card = bank0.bank ++ (bank1.bank ++ bank2.bank)
 abbrev pub banks : Banks
 banks = record { select = 0x00; bits = 0x07; shared = 0x00 ∷ 0x0D ∷ 0x0E ∷ 0x0F ∷ [] }
 
--- "the vendor byte in the image is the high one, whatever bank select holds"; "Device ID of W83793G B Version is 11, C Version is 12"
+-- "the vendor byte in the image is the high one, whatever bank select holds"; "Device ID of W83793G B Version is 11", "C Version is 12"
 abbrev pub identity : List Required
 identity =
     required 0x0D 0xFF 0x5C
@@ -28,8 +28,8 @@ identity =
     ∷ requiredOneOf 0x0F 0xFF 0x11 0x12
     ∷ []
 
--- "7 temperature levels and 7 fan levels", and CriticalTemp, "All fan full speed temperature", which all tables share; a duty has six bits, and "the
--- greatest duty its registers hold stands for 255"
+-- "7 temperature levels and 7 fan levels", and CriticalTemp, "All Fan Full Speed Temperature", 8.11.2.9, which all tables share; a duty has six bits, and
+-- "the greatest duty its registers hold stands for 255"
 abbrev pub table : ℕ → Table
 table first =
     record {
@@ -40,7 +40,7 @@ table first =
       counted = true;
     }
 
--- 8.11: TD1Level01 to TR2Level67, TD1FanLevel0 to TR2FanLevel6
+-- 8.11.2.17: TD1Level01 to TR2Level67; 8.11.2.18: TD1FanLevel0 to TR2FanLevel6; tables 1 to 4 are those of TD1 to TD4, 5 and 6 those of TR1 and TR2
 abbrev pub tables : List Table
 tables = table 0x230 ∷ table 0x240 ∷ table 0x250 ∷ table 0x260 ∷ table 0x270 ∷ table 0x280 ∷ []
 
