@@ -27,12 +27,12 @@ use Rattle.plays.proofs.Played.{Fit, WholeWrites, whole-append, whole-w
 
 -- a value of a register whose mask is as the shape asks is none faster than full
 one-slower : (shape : Shape) (mask v : ℕ) → So (reaches shape mask) → v ≤ mask → ruleOf shape .Fast (ruleOf shape .full) v
-one-slower (Slope full) mask v r h = omega (arith, eqb-true mask full r)
+one-slower (Slope points full) mask v r h = omega (arith, eqb-true mask full r)
 one-slower Steps mask v r h = zero-le
 
 -- and such a register holds full whole
 full-fits : (shape : Shape) (mask : ℕ) → So (reaches shape mask) → bitAnd (fullOf shape) mask ≡ fullOf shape
-full-fits (Slope full) mask r = ap (bitAnd full) (eqb-true mask full r) ∙ and-self full
+full-fits (Slope points full) mask r = ap (bitAnd full) (eqb-true mask full r) ∙ and-self full
 full-fits Steps mask r = refl
 
 abbrev Reaches : Chip → Shape → ℕ → Type 0

@@ -40,10 +40,10 @@ image-speed {number} {table} {t} {image} {r} chip e has long p =
     tellsAsked-injective r (Speed (asks (shapeOf chip table) (held chip table image) t))
     (p .answer ∙ rw (e, has, eq-eqb (length image) (sizeOf chip) long))
 
-plan-speed : {plan : Plan} {t : ℕ} {r : Asked} (chip : Chip) → chipOf (plan .chip) ≡ Known chip → So (hasTable chip (plan .table))
+plan-speed : {plan : Plan} {t : ℕ} {r : Asked} (chip : Chip) → chipOf (plan .chip) ≡ Known chip → Accepted chip plan
     → AsksPlan plan t r → r ≡ Speed (asks (shapeOf chip (plan .table)) (plannedFor chip plan) t)
-plan-speed {plan} {t} {r} chip e has p =
-    tellsAsked-injective r (Speed (asks (shapeOf chip (plan .table)) (plannedFor chip plan) t)) (p .answer ∙ rw (e, has))
+plan-speed {plan} {t} {r} chip e accepted p =
+    tellsAsked-injective r (Speed (asks (shapeOf chip (plan .table)) (plannedFor chip plan) t)) (p .answer ∙ rw (e, accepted .has, accepted .points))
 
 -- the image that a play leaves
 left-by-play : {plan : Plan} {old new : List ℕ} {count n : ℕ} (chip : Chip) → chipOf (plan .chip) ≡ Known chip → Plays plan old count (amount.Of n) new
@@ -62,12 +62,12 @@ demand-3 chip plan e accepted old long cuts =
     let here : length (stops (played chip) (scriptOf chip plan) old cuts) ≡ sizeOf chip = stops-length chip (scriptOf chip plan) cuts old ∙ long in
     record {
       never-slower = λ t s b q atStop before planned.
-          rw (image-speed chip e has here atStop, image-speed chip e has long before, plan-speed chip e has planned)
+          rw (image-speed chip e has here atStop, image-speed chip e has long before, plan-speed chip e accepted planned)
           (asked-at-stop chip plan accepted old long cuts t);
       at-last = λ h t s q atStop planned.
           image-speed chip e has here atStop
           ∙ ap (λ (c : Curve). Speed (asks (shapeOf chip (plan .table)) c t)) (held-at-last chip plan accepted old long cuts (rw e at h))
-          ∙ sym (plan-speed chip e has planned);
+          ∙ sym (plan-speed chip e accepted planned);
       outside = kept-outside chip plan accepted old long cuts;
       as-long = here ∙ sym long;
     }

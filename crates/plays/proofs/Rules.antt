@@ -31,7 +31,7 @@ slopeRule full =
       full = full;
       Fast = MoreDuty;
       slower = min;
-      asks = λ settings speeds t. asks (Slope full) (curve settings speeds) t;
+      asks = λ settings speeds t. askedDuty full (length speeds) (curve settings speeds) t;
       same = le-refl;
       joined = λ a b c p q. le-trans q p;
       left = min-le-left;
@@ -66,5 +66,5 @@ countRule counts rises zeros =
 
 -- the rule of a shape
 abbrev pub ruleOf : Shape → Rule
-ruleOf (Slope full) = slopeRule full
+ruleOf (Slope points full) = slopeRule full
 ruleOf Steps = countRule (λ s v t. asks Steps (curve s v) t) steps-faster steps-full

@@ -42,11 +42,11 @@ use Rattle.plays.proofs.Fitting.{plan-fits, script-whole}
 told-of-rule : (shape : Shape) (stop old plan : Curve) (t : ℕ)
     → ruleOf shape .Fast (asked (ruleOf shape) stop t) (ruleOf shape .slower (asked (ruleOf shape) old t) (asked (ruleOf shape) plan t))
     → AsFast shape (asks shape stop t) (slower shape (asks shape old t) (asks shape plan t))
-told-of-rule (Slope full) stop old plan t f = f
+told-of-rule (Slope points full) stop old plan t f = f
 told-of-rule Steps stop old plan t f = f
 
 full-script : (shape : Shape) (table : Table) (curve : Curve) → script (ruleOf shape .full) table curve ≡ script (fullOf shape) table curve
-full-script (Slope full) table curve = refl
+full-script (Slope points full) table curve = refl
 full-script Steps table curve = refl
 
 -- writes elsewhere keep a byte
