@@ -124,7 +124,7 @@ static void chip_5(void) {
     uint8_t other[YK_BODY_CHIP_5];
     size_t length = sizeof text_5 - 1, k;
 
-    /* After a reset: banks 2, 5 (which there is not) and 0, and what is seen in every bank. */
+    /* After a reset: banks 2, 6 (which there is not) and 0, and what is seen in every bank. */
     same("reset of chip 5", yk_reset(chip, image, size), 0);
     same("its identity", yk_identity(chip, image, size), 0);
     same("a short image", yk_identity(chip, image, YK_IMAGE), YK_REFUSED_IMAGE);
@@ -137,8 +137,8 @@ static void chip_5(void) {
     same("0Dh", yk_read(chip, image, size, 0x0D), packed(0, 0x5C));
     same("a write", yk_write(chip, image, size, 0x30, 0x9F), 0);
     same("where it lands", image[0x230], 0x1F);
-    same("bank 5", yk_write(chip, image, size, 0x00, 0x05), 0);
-    same("30h in bank 5", yk_read(chip, image, size, 0x30), 0);
+    same("bank 6", yk_write(chip, image, size, 0x00, 0x06), 0);
+    same("30h in bank 6", yk_read(chip, image, size, 0x30), 0);
     same("0Eh", yk_read(chip, image, size, 0x0E), packed(0, 0x7B));
     same("a write to nothing", yk_write(chip, image, size, 0x30, 0x11), 0);
     same("bank 0", yk_write(chip, image, size, 0x00, 0x80), 0);

@@ -237,10 +237,10 @@ pub fn asked_of_image(chip: u8, table: u8, image: &[u8], t: u8) -> (u32, u16) {
 /// chip 5; body bytes past the chip's own are zero.
 pub fn read_record(bytes: &[u8]) -> (u32, u8, u8, [u8; BODY], usize) {
     let refused = |refusal: u32| (refusal, 0, 0, [0; BODY], 0);
-    let [first, second, chip, table, ref rest @ ..] = *bytes else {
+    if bytes.len() < 4 {
         return refused(1);
-    };
-    let mark = [first, second];
+    }
+    let (mark, chip, table, rest) = ([bytes[0], bytes[1]], bytes[2], bytes[3], &bytes[4..]);
     if ![PLAIN.mark, COUNTED.mark].contains(&mark) {
         return refused(2);
     }

@@ -286,7 +286,8 @@ impl Random {
         }
     }
 
-    /// The bytes of a record: good with or without a tail, cut short, damaged or random.
+    /// The bytes of a record: good with or without a tail, cut short, damaged, with another mark or
+    /// random.
     pub fn record(&mut self) -> Vec<u8> {
         let draft = if self.once_in(3) { self.plan() } else { self.good_plan() };
         let mut bytes = draft.record();

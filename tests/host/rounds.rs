@@ -105,10 +105,12 @@ pub fn plans<S: Subject>(d: &mut Driver<S>, r: &mut Random, rounds: usize) {
         let mut draft = r.plan();
         let judged = d.judge(draft.plan());
         let planned = d.asked_of_plan_at_all(draft.plan());
-        let (Some(registers), false) = (model::registers(draft.chip, draft.table), [5, 16].contains(&judged))
-        else {
-            hold(planned == vec![(judged, 0); 256], "nothing is asked", &draft);
-            continue;
+        let registers = match model::registers(draft.chip, draft.table) {
+            Some(registers) if judged != 5 && judged != 16 => registers,
+            _ => {
+                hold(planned == vec![(judged, 0); 256], "nothing is asked", &draft);
+                continue;
+            }
         };
         let mut image = r.bytes(model::image_length(draft.chip));
         put(&mut image, registers, draft.plan().values());
@@ -294,6 +296,27 @@ pub fn cuts<S: Subject>(d: &mut Driver<S>, r: &mut Random, chip: u8, rounds: usi
                 image[select] = old[select];
             }
             hold(image == old, "every byte outside the table as before", &(&draft, cut));
+        }
+    }
+}
+
+/// Every byte of the bank select register before a play, at all cuts: "whichever bank was selected",
+/// the play leaves what it leaves from power-on, but for that register itself.
+pub fn selects<S: Subject>(d: &mut Driver<S>, r: &mut Random) {
+    for (chip, table) in [(4, 1), (4, 5), (4, 10), (5, 1), (5, 6)] {
+        let draft = Draft { chip, table, body: r.ordered(chip) };
+        let reset = power_on(d, chip);
+        for cut in 0..=writes_of(chip) + 1 {
+            let (select, kept, bank) = selecting(&draft, cut).unwrap();
+            let mut want = reset.clone();
+            d.play(draft.plan(), &mut want, cut);
+            for before in 0..=255 {
+                let mut image = reset.clone();
+                image[select] = before;
+                d.play(draft.plan(), &mut image, cut);
+                want[select] = if cut == 0 { before } else { before & kept | bank };
+                hold(image == want, "whichever bank was selected", &(&draft, cut, before));
+            }
         }
     }
 }

@@ -6,7 +6,7 @@ use crate::model::{self, Plan, Watch, SCRIPT};
 use crate::random::{Draft, Random};
 use crate::restarts::restarts;
 use crate::rounds::{
-    cut_bodies, cuts, damaged_records, images, plans, plays, records, runs, texts, watches,
+    cut_bodies, cuts, damaged_records, images, plans, plays, records, runs, selects, texts, watches,
 };
 use crate::subject::Subject;
 
@@ -18,6 +18,7 @@ pub fn run<S: Subject>(d: &mut Driver<S>, seed: u64, rounds: usize) {
     every_count(d, r);
     every_write(d, r);
     every_select(d, r);
+    selects(d, r);
     every_flip(d);
     every_reading(d);
     every_right_reading(d);
