@@ -300,8 +300,8 @@ pub fn cuts<S: Subject>(d: &mut Driver<S>, r: &mut Random, chip: u8, rounds: usi
     }
 }
 
-/// Every byte of the bank select register before a play, at all cuts: "whichever bank was selected",
-/// the play leaves what it leaves from power-on, but for that register itself.
+/// Every byte of the bank select register before a play, at all cuts: "whichever bank was
+/// selected", the play leaves what it leaves from power-on, but for that register itself.
 pub fn selects<S: Subject>(d: &mut Driver<S>, r: &mut Random) {
     for (chip, table) in [(4, 1), (4, 5), (4, 10), (5, 1), (5, 6)] {
         let draft = Draft { chip, table, body: r.ordered(chip) };

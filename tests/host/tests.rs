@@ -25,7 +25,7 @@ pub fn run<S: Subject>(d: &mut Driver<S>, seed: u64, rounds: usize) {
     every_watch(d);
     every_run(d);
     long_runs(d);
-    damaged_records(d, r, 100 * rounds);
+    damaged_records(d, r, 40 * rounds);
     for _ in 0..10 * rounds {
         images(d, r, 10_000);
         watches(d, r, 2_000);
@@ -37,7 +37,7 @@ pub fn run<S: Subject>(d: &mut Driver<S>, seed: u64, rounds: usize) {
         cuts(d, r, 1, 8);
         cuts(d, r, 2, 8);
         cuts(d, r, 4, 250);
-        cuts(d, r, 5, 60);
+        cuts(d, r, 5, 40);
         texts(d, r, 150);
     }
     restarts(d, r, 128 * rounds);
