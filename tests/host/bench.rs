@@ -138,7 +138,7 @@ fn compare<S: Subject>(
 /// Prints a line per function: library and model in nanoseconds per call, and their ratio.
 pub fn all<S: Subject>(s: &S, seed: u64) {
     println!("{:22} {:>12} {:>12} {:>8}", "median ns per call", "library", "model", "ratio");
-    let grounds: [(&str, Chips); 2] = [("", &[1, 2]), (", chip 4", &[4])];
+    let grounds: [(&str, Chips); 3] = [("", &[1, 2]), (", chip 4", &[4]), (", chip 5", &[5])];
     for (whose, chips) in grounds {
         let name = |what: &str| format!("{}{}", what, whose);
         let from = (seed, chips);

@@ -89,9 +89,9 @@ fn plans(g: &mut Ground, r: &mut Random, side: Side) {
 /// Bodies of every length to 20, and long ones whose length would be short in one byte or two; of
 /// every table there is and of some that are none. Nothing is read past a body that is cut short.
 fn bodies(g: &mut Ground, r: &mut Random) {
-    for chip in 0..=5 {
-        for table in 0..=if chip == 4 { 11 } else { 4 } {
-            for length in (0..=20).chain([255, 256, 264, 265, 269, 270, 65535, 65536]) {
+    for chip in 0..=6 {
+        for table in 0..=model::tables(chip).max(3) as u8 + 1 {
+            for length in (0..=20).chain([255, 256, 264, 265, 269, 270, 271, 272, 65535, 65536]) {
                 let mut body = r.ordered(chip);
                 body.resize(length, 0xA7);
                 let draft = Draft { chip, table, body };
@@ -104,7 +104,7 @@ fn bodies(g: &mut Ground, r: &mut Random) {
 
 /// Every call that takes a body.
 fn with_body(g: &mut Ground, r: &mut Random, side: Side, draft: &Draft) {
-    let (chip, table, t, count) = (draft.chip, draft.table, r.byte(), r.below(27));
+    let (chip, table, t, count) = (draft.chip, draft.table, r.byte(), r.below(28));
     let s = &Library;
     g.call(
         "asked_of_plan", side, &draft.body, &[],
@@ -146,10 +146,11 @@ fn texts(g: &mut Ground, r: &mut Random, side: Side) {
     }
 }
 
-/// The longest text that we know of (YK_TEXT_MAX of the header is a proved bound above it). The text
-/// of a record is 78 bytes and a line for chip 1, 144 and a line for chip 2, 84 and a line for chip
-/// 4, whose line is longest for table 10. So most of the longest text is of chip 2: 2 records of
-/// chip 4, 226 of chip 2 and two more bytes, which are refused.
+/// The longest text that we know of (YK_TEXT_MAX of the header is a proved bound above it). The
+/// text of a record is 78 bytes and a line for chip 1, 144 and a line for chip 2, 84 and a line for
+/// chip 4, whose line is longest for table 10, 150 and a line for chip 5, whose record has two
+/// bytes more than chip 2's. So most of the longest text is of chip 2: 2 records of chip 4, 226 of
+/// chip 2 and two more bytes, which are refused.
 fn longest(g: &mut Ground, r: &mut Random) {
     let mut input = Vec::new();
     for k in 0..228 {

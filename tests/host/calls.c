@@ -1,5 +1,5 @@
 /* Every function once or more through include/yerkhulbaz.h, at figures of the rules paper and of
- * chip 4: the prototypes are those of the library. */
+ * chips 4 and 5: the prototypes are those of the library. */
 #include "yerkhulbaz.h"
 
 #include <stdio.h>
@@ -27,12 +27,20 @@ static const char text[] = "plan 1 chip 1 table 3 writes 13\n"
                            "A5 8C\nA6 AA\nA7 C8\nA8 E6\nend 1\n";
 
 /* A plan of chip 4, critical first, and its text. */
-enum { IMAGE_4 = 1280, BODY_4 = 9 };
+enum { IMAGE_4 = YK_IMAGE_CHIP_4, BODY_4 = YK_BODY_CHIP_4 };
 static const uint8_t record_4[13] = {0x43, 0x50, 0x04, 0x0A, 0x7F, 0xEC, 0x00,
                                      0x14, 0x32, 0x00, 0x40, 0x80, 0xFF};
 static const char text_4[] = "plan 1 chip 4 table 10 writes 14\n"
                              "FF 04\n5C FF\n5D FF\n5E FF\n5F FF\n58 EC\n59 00\n5A 14\n5B 32\n"
                              "15 7F\n5C 00\n5D 40\n5E 80\n5F FF\nend 1\n";
+
+/* A plan of chip 5, with its own mark and a point count, and its text. */
+static const uint8_t record_5[20] = {0x43, 0x51, 0x05, 0x01, 0x07, 0x1E, 0x23, 0x28, 0x2D, 0x32,
+                                     0x37, 0x3C, 0x50, 0x08, 0x0C, 0x10, 0x18, 0x20, 0x30, 0x38};
+static const char text_5[] = "plan 1 chip 5 table 1 writes 25\n"
+                             "00 02\n38 3F\n39 3F\n3A 3F\n3B 3F\n3C 3F\n3D 3F\n3E 3F\n30 1E\n"
+                             "31 23\n32 28\n33 2D\n34 32\n35 37\n36 3C\n00 00\nC5 50\n00 02\n"
+                             "38 08\n39 0C\n3A 10\n3B 18\n3C 20\n3D 30\n3E 38\nend 1\n";
 
 /* 81 degrees, no 12-bit step count, 75 degrees, a step below. */
 static const int16_t samples[4] = {1296, 2048, 1200, 1199};
@@ -48,7 +56,7 @@ static void chip_4(void) {
     same("its identity", yk_identity(4, image, IMAGE_4), 0);
     same("a short image", yk_identity(4, image, YK_IMAGE), YK_REFUSED_IMAGE);
     same("a long image of chip 1", yk_identity(1, image, IMAGE_4), YK_REFUSED_IMAGE);
-    same("chip 5", yk_identity(5, image, IMAGE_4), YK_REFUSED_CHIP);
+    same("chip 6", yk_identity(6, image, IMAGE_4), YK_REFUSED_CHIP);
     same("bank 3", yk_write(4, image, IMAGE_4, 0xFF, 0x83), 0);
     same("FFh", yk_read(4, image, IMAGE_4, 0xFF), packed(0, 0x03));
     same("20h in bank 3", yk_read(4, image, IMAGE_4, 0x20), packed(0, 0x5A));
@@ -96,6 +104,126 @@ static void chip_4(void) {
     same("the bank select register", image[0xFF], 0x2C);
     same("text", yk_translate(record_4, sizeof record_4, out, sizeof out), packed(0, length));
     same("its bytes", (uint64_t)memcmp(out, text_4, length), 0);
+}
+
+/* A record of chip 5, or a stretch of one, that is refused. */
+static void refused_5(const char *what, const char *bytes, size_t length, uint64_t refusal) {
+    uint8_t given[sizeof record_5];
+    memcpy(given, bytes, length);
+    same(what, yk_read_record(given, length), refusal);
+}
+
+/* Every function that takes a chip, with chip 5. */
+static void chip_5(void) {
+    static uint8_t image[YK_IMAGE_CHIP_5], kept[YK_IMAGE_CHIP_5], out[YK_IMAGE_CHIP_5];
+    const uint8_t chip = YK_W83793G, *body = record_5 + 4;
+    const size_t size = YK_IMAGE_CHIP_5, whole = YK_BODY_CHIP_5;
+    static const uint8_t degrees[] = {0x80, 0xFF, 0x00, 0x1E, 0x1F, 0x21, 0x2A,
+                                      0x2F, 0x35, 0x3A, 0x3C, 0x4F, 0x50, 0x7F};
+    static const uint8_t asked[] = {8, 8, 8, 8, 8, 10, 19, 27, 41, 52, 56, 56, 63, 63};
+    uint8_t other[YK_BODY_CHIP_5];
+    size_t length = sizeof text_5 - 1, k;
+
+    /* After a reset: banks 2, 6 (which there is not) and 0, and what is seen in every bank. */
+    same("reset of chip 5", yk_reset(chip, image, size), 0);
+    same("its identity", yk_identity(chip, image, size), 0);
+    same("a short image", yk_identity(chip, image, YK_IMAGE), YK_REFUSED_IMAGE);
+    same("a long image of chip 1", yk_identity(1, image, size), YK_REFUSED_IMAGE);
+    same("chip 6", yk_identity(6, image, size), YK_REFUSED_CHIP);
+    same("00h", yk_read(chip, image, size, 0x00), packed(0, 0x80));
+    same("bank 2", yk_write(chip, image, size, 0x00, 0x7A), 0);
+    same("00h", yk_read(chip, image, size, 0x00), packed(0, 0x02));
+    same("30h in bank 2", yk_read(chip, image, size, 0x30), packed(0, 0x1E));
+    same("0Dh", yk_read(chip, image, size, 0x0D), packed(0, 0x5C));
+    same("a write", yk_write(chip, image, size, 0x30, 0x9F), 0);
+    same("where it lands", image[0x230], 0x1F);
+    same("bank 6", yk_write(chip, image, size, 0x00, 0x06), 0);
+    same("30h in bank 6", yk_read(chip, image, size, 0x30), 0);
+    same("0Eh", yk_read(chip, image, size, 0x0E), packed(0, 0x7B));
+    same("a write to nothing", yk_write(chip, image, size, 0x30, 0x11), 0);
+    same("bank 0", yk_write(chip, image, size, 0x00, 0x80), 0);
+    same("C5h in bank 0", yk_read(chip, image, size, 0xC5), packed(0, 0x50));
+    image[0x0F] = 0x13;
+    same("another version", yk_identity(chip, image, size), YK_REFUSED_IDENTITY);
+    image[0x0F] = 0x11;
+    same("version B", yk_identity(chip, image, size), 0);
+    image[0x0F] = 0x12;
+    same("version C", yk_identity(chip, image, size), 0);
+
+    /* The plan: read, written again, asked, as script, played, translated. */
+    same("record", yk_read_record(record_5, sizeof record_5), packed(0, 20 + 256 * 5 + 65536 * 1));
+    memset(out, 0xEE, sizeof out);
+    same("written", yk_write_record(chip, 1, body, whole, out, YK_RECORD_MAX), packed(0, 20));
+    same("its bytes", (uint64_t)memcmp(out, record_5, 20), 0);
+    same("its tail", out[20], 0xEE);
+    same("short output", yk_write_record(chip, 1, body, whole, out, 19), YK_REFUSED_OUTPUT);
+    for (k = 0; k < sizeof degrees; k++) {
+        same("asked", yk_asked_of_plan(chip, 1, body, whole, degrees[k]), packed(0, asked[k]));
+    }
+    same("short output", yk_script(chip, 1, body, whole, out, YK_SCRIPT_MAX - 1), YK_REFUSED_OUTPUT);
+    same("script", yk_script(chip, 1, body, whole, out, YK_SCRIPT_MAX), packed(0, 25));
+    same("its first and last write", (uint64_t)(memcmp(out, "\x00\x02", 2) | memcmp(out + 48, "\x3E\x38", 2)), 0);
+    same("critical and its selects", (uint64_t)memcmp(out + 30, "\x00\x00\xC5\x50\x00\x02", 6), 0);
+    image[0x00] = 0xFF;
+    image[0xC5] = 0xBC;
+    same("asked before", yk_asked_of_image(chip, 6, image, size, 60), packed(0, 63));
+    same("play of none", yk_play(chip, 6, body, whole, image, size, 0), 0);
+    same("play of 8", yk_play(chip, 6, body, whole, image, size, 8), packed(0, 8));
+    same("the bank select register", image[0x00], 0x7A);
+    same("asked then", yk_asked_of_image(chip, 6, image, size, 30), packed(0, 63));
+    same("play of 16", yk_play(chip, 6, body, whole, image, size, 16), packed(0, 16));
+    same("the bank select register", image[0x00], 0x78);
+    same("play", yk_play(chip, 6, body, whole, image, size, 26), packed(0, 25));
+    same("asked at 47", yk_asked_of_image(chip, 6, image, size, 47), packed(0, 27));
+    same("the table", (uint64_t)(memcmp(image + 0x280, body + 1, 7) | memcmp(image + 0x288, body + 9, 7)), 0);
+    same("the bank select register", image[0x00], 0x7A);
+    /* Critical is that of all six tables; its bit 7 is none of its value. */
+    same("critical", image[0xC5], 0xD0);
+    for (k = 1; k <= 6; k++) {
+        same("at 79", yk_asked_of_image(chip, (uint8_t)k, image, size, 79), packed(0, 56));
+        same("at 80", yk_asked_of_image(chip, (uint8_t)k, image, size, 80), packed(0, 63));
+    }
+    same("text", yk_translate(record_5, sizeof record_5, out, sizeof out), packed(0, length));
+    same("its bytes", (uint64_t)memcmp(out, text_5, length), 0);
+
+    /* Records that are refused, in the order of the checks. */
+    refused_5("three bytes", "\x43\x51\x05", 3, YK_REFUSED_HEADER);
+    refused_5("no mark", "\x43\x52\x05\x01", 4, YK_REFUSED_MARK);
+    refused_5("no chip", "\x43\x51\x06\x01", 4, YK_REFUSED_CHIP);
+    refused_5("no table of chip 3", "\x43\x51\x03\x01", 4, YK_REFUSED_TABLE);
+    refused_5("no table 7", "\x43\x51\x05\x07", 4, YK_REFUSED_TABLE);
+    refused_5("no table 7 in the old form", "\x43\x50\x05\x07", 4, YK_REFUSED_TABLE);
+    refused_5("chip 5 in the old form", "\x43\x50\x05\x01", 4, YK_REFUSED_FORM);
+    refused_5("chip 1 in the new form", "\x43\x51\x01\x01", 4, YK_REFUSED_FORM);
+    refused_5("chip 2 in the new form", "\x43\x51\x02\x01", 4, YK_REFUSED_FORM);
+    refused_5("chip 4 in the new form", "\x43\x51\x04\x01", 4, YK_REFUSED_FORM);
+    refused_5("six points", "\x43\x51\x05\x01\x06", 5, YK_REFUSED_FORM);
+    refused_5("eight points", "\x43\x51\x05\x01\x08", 5, YK_REFUSED_FORM);
+    refused_5("no point count", "\x43\x51\x05\x01", 4, YK_REFUSED_BODY);
+    refused_5("no point", "\x43\x51\x05\x01\x07", 5, YK_REFUSED_BODY);
+    same("cut record", yk_read_record(record_5, 19), YK_REFUSED_BODY);
+
+    /* Plans that are refused: the buffers are as they were. */
+    memcpy(kept, image, size);
+    memcpy(out, image, size);
+    memcpy(other, body, whole);
+    other[0] = 8;
+    same("record of eight points", yk_write_record(chip, 1, other, whole, out, size), YK_REFUSED_FORM);
+    same("their script", yk_script(chip, 1, other, whole, out, size), YK_REFUSED_FORM);
+    same("their play", yk_play(chip, 1, other, whole, image, size, 25), YK_REFUSED_FORM);
+    same("what they ask", yk_asked_of_plan(chip, 1, other, whole, 45), YK_REFUSED_FORM);
+    same("a point count alone", yk_asked_of_plan(chip, 1, other, 1, 45), YK_REFUSED_FORM);
+    same("table 7", yk_asked_of_plan(chip, 7, other, 1, 45), YK_REFUSED_TABLE);
+    other[0] = 7;
+    same("cut body", yk_play(chip, 1, other, whole - 1, image, size, 25), YK_REFUSED_BODY);
+    same("no body", yk_asked_of_plan(chip, 1, other, 0, 45), YK_REFUSED_BODY);
+    other[1] = 0x9E;
+    other[15] = 0x40;
+    same("eight bits of T1", yk_script(chip, 1, other, whole, out, size), YK_REFUSED_TEMPERATURES);
+    other[1] = 0x1E;
+    same("seven bits of FL7", yk_script(chip, 1, other, whole, out, size), YK_REFUSED_SPEEDS);
+    same("the output", (uint64_t)memcmp(out, kept, size), 0);
+    same("the image", (uint64_t)memcmp(image, kept, size), 0);
 }
 
 int main(void) {
@@ -177,5 +305,6 @@ int main(void) {
     same("its bytes", (uint64_t)memcmp(out, text, length), 0);
     same("short text", yk_translate(record, sizeof record, out, length - 1), YK_REFUSED_OUTPUT);
     chip_4();
+    chip_5();
     return failed;
 }

@@ -1,6 +1,7 @@
 //! What the papers say of each chip, as data: card, banks, identity and fan tables.
 
-use crate::cards::{Row, F75373S, NCT7802Y, NCT7904D, NCT80};
+use crate::cards::{Row, F75373S, NCT7802Y, NCT7904D, NCT80, W83793G};
+use Held::{Is, OneOf};
 
 pub struct Chip {
     /// A row for each byte of an image.
@@ -8,14 +9,18 @@ pub struct Chip {
     pub banks: Option<Banks>,
     /// Where, which bits, and what they hold. "Confirmed means all of them"; without a list it is
     /// never confirmed.
-    pub identity: Option<&'static [(usize, u8, u8)]>,
-    /// A fan table: where its registers stand in the image, in the order of the body.
+    pub identity: Option<&'static [(usize, u8, Held)]>,
+    pub form: &'static Form,
+    /// A fan table: where its registers stand in the image, in the order of the record.
     pub tables: &'static [&'static [usize]],
-    /// Where T1 to T4 and critical, or B1 to B4, stand in the body.
+    /// Which of these are the points' temperatures and, last, critical, or B1 to B4.
     pub temperatures: &'static [usize],
-    /// Where FL1 to FL4 (P1 to P4), or C1 to C5, stand in the body.
+    /// Which of these are the points' duties, or C1 to C5.
     pub speeds: &'static [usize],
     pub curve: Curve,
+    /// A speed byte at full speed: the greatest duty that a register holds, or either byte of count
+    /// 0000h.
+    pub fastest: u8,
 }
 
 /// "Several register banks behind a bank select register."
@@ -27,12 +32,59 @@ pub struct Banks {
     pub everywhere: &'static [u8],
 }
 
+/// What the bits of an identity register hold.
+pub enum Held {
+    Is(u8),
+    OneOf(&'static [u8]),
+}
+
+impl Held {
+    pub fn admits(&self, bits: u8) -> bool {
+        match self {
+            Is(byte) => *byte == bits,
+            OneOf(bytes) => bytes.iter().any(|byte| *byte == bits),
+        }
+    }
+
+    /// All that they may hold.
+    pub fn bytes(&self) -> &[u8] {
+        match self {
+            Is(byte) => std::slice::from_ref(byte),
+            OneOf(bytes) => bytes,
+        }
+    }
+}
+
+/// The form of a record: its mark, and whether a point count stands behind the table's number.
+pub struct Form {
+    pub mark: [u8; 2],
+    pub counted: bool,
+}
+
+/// "A two-byte mark 43h 50h before each plan."
+pub static PLAIN: Form = Form { mark: [0x43, 0x50], counted: false };
+/// "A record with mark 43h 51h carries chip, table, a point count [...]."
+pub static COUNTED: Form = Form { mark: [0x43, 0x51], counted: true };
+
 #[derive(Clone, Copy, PartialEq, Eq)]
 pub enum Curve {
-    /// "T1, T2, T3, T4, critical (signed degrees, -128 to 127), FL1 to FL4 (0 to 255)."
+    /// Points of a temperature and a duty, and critical: "T1, T2, T3, T4, critical (signed degrees,
+    /// -128 to 127), FL1 to FL4 (0 to 255)".
     Slope,
     /// "B1 to B4 (0 to 255 degrees), counts C1 to C5 (0 to 65,535)."
     Counts,
+}
+
+impl Chip {
+    /// The point count that goes with the chip, if its records carry one.
+    pub fn count(&self) -> Option<u8> {
+        self.form.counted.then_some(self.speeds.len() as u8)
+    }
+
+    /// The bytes of a body before its registers' values: the point count, or none.
+    pub fn head(&self) -> usize {
+        usize::from(self.form.counted)
+    }
 }
 
 /// The chip of a number, if there is one.
@@ -41,9 +93,9 @@ pub fn chip_of(number: u8) -> Option<&'static Chip> {
 }
 
 /// "Chip 1 is the Nuvoton NCT7802Y, chip 2 the Fintek F75373S, chip 3 the onsemi NCT80." "The
-/// NCT7904D [...] Add it as chip 4."
+/// NCT7904D [...] Add it as chip 4." "Chip 5, the W83793G."
 #[rustfmt::skip]
-static CHIPS: [Chip; 4] = [
+static CHIPS: [Chip; 5] = [
     Chip {
         card: &NCT7802Y,
         // "Its image is bank 0, which counts as selected whatever 00h holds."
@@ -51,8 +103,10 @@ static CHIPS: [Chip; 4] = [
         // "FDh holds 50h, FEh holds C3h, the upper four bits of FFh are 2, bits 4 to 0 of 05h are
         // zero, bits 5 to 0 of 08h are zero."
         identity: Some(&[
-            (0xFD, 0xFF, 0x50), (0xFE, 0xFF, 0xC3), (0xFF, 0xF0, 0x20), (0x05, 0x1F, 0), (0x08, 0x3F, 0),
+            (0xFD, 0xFF, Is(0x50)), (0xFE, 0xFF, Is(0xC3)), (0xFF, 0xF0, Is(0x20)),
+            (0x05, 0x1F, Is(0)), (0x08, 0x3F, Is(0)),
         ]),
+        form: &PLAIN,
         // "Table 1 has T1 to T4 at 80h to 83h, critical 84h, FL1 to FL4 85h to 88h; table 2 the
         // same from 90h, table 3 from A0h."
         tables: &[
@@ -63,12 +117,16 @@ static CHIPS: [Chip; 4] = [
         temperatures: &[0, 1, 2, 3, 4],
         speeds: &[5, 6, 7, 8],
         curve: Curve::Slope,
+        fastest: 0xFF,
     },
     Chip {
         card: &F75373S,
         banks: None,
         // "5Ah, 5Bh, 5Dh, 5Eh hold 02h, 04h, 19h, 34h."
-        identity: Some(&[(0x5A, 0xFF, 0x02), (0x5B, 0xFF, 0x04), (0x5D, 0xFF, 0x19), (0x5E, 0xFF, 0x34)]),
+        identity: Some(&[
+            (0x5A, 0xFF, Is(0x02)), (0x5B, 0xFF, Is(0x04)), (0x5D, 0xFF, Is(0x19)), (0x5E, 0xFF, Is(0x34)),
+        ]),
+        form: &PLAIN,
         // "Fan 1 has B1 to B4 at A0h to A3h and C1 to C5 from A4h to ADh, high byte first; fan 2
         // the same from B0h."
         tables: &[
@@ -78,17 +136,20 @@ static CHIPS: [Chip; 4] = [
         temperatures: &[0, 1, 2, 3],
         speeds: &[4, 5, 6, 7, 8, 9, 10, 11, 12, 13],
         curve: Curve::Counts,
+        fastest: 0x00,
     },
     Chip {
         card: &NCT80,
         banks: None,
         // "For chip 3 always: it has no identity rule here."
         identity: None,
+        form: &PLAIN,
         // "Chip 3: none."
         tables: &[],
         temperatures: &[],
         speeds: &[],
         curve: Curve::Counts,
+        fastest: 0x00,
     },
     Chip {
         card: &NCT7904D,
@@ -99,9 +160,10 @@ static CHIPS: [Chip; 4] = [
         // "Identity from its vendor, chip and device registers": 7.1.3 to 7.1.5 and 7.1.12 to
         // 7.1.14, "Default Value: 50", "C5", "5x".
         identity: Some(&[
-            (0x0D, 0xFF, 0x50), (0x0E, 0xFF, 0xC5), (0x0F, 0xF0, 0x50),
-            (0x7A, 0xFF, 0x50), (0x7B, 0xFF, 0xC5), (0x7C, 0xF0, 0x50),
+            (0x0D, 0xFF, Is(0x50)), (0x0E, 0xFF, Is(0xC5)), (0x0F, 0xF0, Is(0x50)),
+            (0x7A, 0xFF, Is(0x50)), (0x7B, 0xFF, Is(0xC5)), (0x7C, 0xF0, Is(0x50)),
         ]),
+        form: &PLAIN,
         // "Its own fan tables", in register order: critical, T1 to T4, P1 to P4. Tables 1 to 4 stand
         // in bank 3 (sections 7.4.16 and 7.4.19), 5 to 10 in bank 4 (7.5.3 and 7.5.5).
         tables: &[
@@ -119,5 +181,34 @@ static CHIPS: [Chip; 4] = [
         temperatures: &[1, 2, 3, 4, 0],
         speeds: &[5, 6, 7, 8],
         curve: Curve::Slope,
+        fastest: 0xFF,
+    },
+    Chip {
+        card: &W83793G,
+        // Section 8.1.2.1: "6-3 Reserved. 2-0 BANK Select." Section 8.1.1: "Address 00, 0D, 0E, 0F
+        // in all three register banks are reserved as ID, Bank Select registers."
+        banks: Some(Banks { select: 0x00, bits: 0x07, everywhere: &[0x00, 0x0D, 0x0E, 0x0F] }),
+        // "The vendor byte in the image is the high one, whatever bank select holds": of the two in
+        // 8.1.2.2, 5C and A3. 8.1.2.3: "Chip ID of W83793G is 7B". 8.1.2.4: "Device ID of W83793G B
+        // Version is 11, C Version is 12".
+        identity: Some(&[(0x0D, 0xFF, Is(0x5C)), (0x0E, 0xFF, Is(0x7B)), (0x0F, 0xFF, OneOf(&[0x11, 0x12]))]),
+        // "43h 51h serves only chip 5."
+        form: &COUNTED,
+        // Sections 8.11.2.17 and 8.11.2.18: "a table is consisted of 7 temperature levels and 7 fan
+        // levels", TD1 to TD4, TR1 and TR2, in bank 2; 8.11.2.9: critical in bank 0, one register
+        // for all six.
+        tables: &[
+            &[0x230, 0x231, 0x232, 0x233, 0x234, 0x235, 0x236, 0x0C5, 0x238, 0x239, 0x23A, 0x23B, 0x23C, 0x23D, 0x23E],
+            &[0x240, 0x241, 0x242, 0x243, 0x244, 0x245, 0x246, 0x0C5, 0x248, 0x249, 0x24A, 0x24B, 0x24C, 0x24D, 0x24E],
+            &[0x250, 0x251, 0x252, 0x253, 0x254, 0x255, 0x256, 0x0C5, 0x258, 0x259, 0x25A, 0x25B, 0x25C, 0x25D, 0x25E],
+            &[0x260, 0x261, 0x262, 0x263, 0x264, 0x265, 0x266, 0x0C5, 0x268, 0x269, 0x26A, 0x26B, 0x26C, 0x26D, 0x26E],
+            &[0x270, 0x271, 0x272, 0x273, 0x274, 0x275, 0x276, 0x0C5, 0x278, 0x279, 0x27A, 0x27B, 0x27C, 0x27D, 0x27E],
+            &[0x280, 0x281, 0x282, 0x283, 0x284, 0x285, 0x286, 0x0C5, 0x288, 0x289, 0x28A, 0x28B, 0x28C, 0x28D, 0x28E],
+        ],
+        temperatures: &[0, 1, 2, 3, 4, 5, 6, 7],
+        speeds: &[8, 9, 10, 11, 12, 13, 14],
+        curve: Curve::Slope,
+        // "The greatest duty its registers hold stands for 255": six bits.
+        fastest: 0x3F,
     },
 ];

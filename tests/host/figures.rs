@@ -1,12 +1,12 @@
 //! Every figure of the paper, asked of model and subject at once: the fixed points of the
 //! cards, "Figures to check against", the example text and "Mistakes we made or nearly made"; and
-//! those worked out for chip 4.
+//! those worked out for chips 4 and 5.
 
 use crate::chips::chip_of;
 use crate::driver::{hold, Driver};
 use crate::model::{self, Plan, Watch};
 use crate::subject::Subject;
-use crate::rounds::never_slower;
+use crate::rounds::{never_slower, put};
 use crate::tests::power_on;
 
 /// The bytes of the paper's example.
@@ -31,17 +31,32 @@ const FOUR: [([u8; 13], &str); 2] = [
     ),
 ];
 
+/// A plan of chip 5, whose record has a mark of its own and a point count, and its text: banks 2, 0
+/// and 2 are selected.
+const FIVE: [u8; 20] = [
+    0x43, 0x51, 0x05, 0x01, 0x07, 0x1E, 0x23, 0x28, 0x2D, 0x32, 0x37, 0x3C, 0x50, 0x08, 0x0C, 0x10, 0x18,
+    0x20, 0x30, 0x38,
+];
+
+const FIVE_TEXT: &str = "plan 1 chip 5 table 1 writes 25\n00 02\n38 3F\n39 3F\n3A 3F\n3B 3F\n3C 3F\n\
+3D 3F\n3E 3F\n30 1E\n31 23\n32 28\n33 2D\n34 32\n35 37\n36 3C\n00 00\nC5 50\n00 02\n38 08\n\
+39 0C\n3A 10\n3B 18\n3C 20\n3D 30\n3E 38\nend 1\n";
+
 pub fn run<S: Subject>(d: &mut Driver<S>) {
     cards(d);
     banks(d);
     identities(d);
+    one_of(d);
     readings(d);
     right_aligned(d);
     watches(d);
     runs(d);
     speeds(d);
     records(d);
+    forms(d);
     cut_bodies(d);
+    narrow_registers(d);
+    shared_critical(d);
     half_loaded(d);
 }
 
@@ -51,8 +66,10 @@ fn row<S: Subject>(d: &mut Driver<S>, chip: u8, at: usize) -> (u8, u8, u8) {
     let length = model::image_length(chip);
     let mut changed = |byte: u8| {
         let mut image = vec![0xFF; length];
-        if chip == 4 && address != 0xFF {
-            image[0xFF] = 0xF8 | bank;
+        match (chip, address) {
+            (4, 0x00..=0xFE) => image[0xFF] = 0xF8 | bank,
+            (5, 0x01..=0xFF) => image[0x00] = 0xF8 | bank,
+            _ => {}
         }
         d.write(chip, &mut image, address, byte);
         !image[at]
@@ -106,7 +123,25 @@ fn cards<S: Subject>(d: &mut Driver<S>) {
     for at in (1..5).flat_map(|bank| [0x7A, 0x7B, 0x7C, 0xFF].map(|address| 256 * bank + address)) {
         point(4, at, (Some(0), Some(0), Some(0)));
     }
-    // "All fan table registers have mask FFh."
+    for at in (1..3).flat_map(|bank| [0x00, 0x0D, 0x0E, 0x0F].map(|address| 256 * bank + address)) {
+        point(5, at, (Some(0), Some(0), Some(0)));
+    }
+    // Chip 5: the bank select register; the vendor's high byte and the chip, read only; the sheet's
+    // defaults of the six tables and of critical, with their bits.
+    point(5, 0x00, (Some(0x87), Some(0), Some(0x80)));
+    point(5, 0x0D, (Some(0), Some(0), Some(0x5C)));
+    point(5, 0x0E, (Some(0), Some(0), Some(0x7B)));
+    point(5, 0x0F, (Some(0), Some(0), None));
+    point(5, 0xC5, (Some(0x7F), Some(0), Some(0x50)));
+    for base in (0x230..0x290).step_by(0x10) {
+        for (at, power_on) in (base..).zip([0x1E, 0x23, 0x28, 0x2D, 0x32, 0x37, 0x3C]) {
+            point(5, at, (Some(0x7F), Some(0), Some(power_on)));
+        }
+        for (at, power_on) in (base + 8..).zip([0x08, 0x0C, 0x10, 0x18, 0x20, 0x30, 0x38]) {
+            point(5, at, (Some(0x3F), Some(0), Some(power_on)));
+        }
+    }
+    // "All fan table registers have mask FFh", but for those of chip 5.
     let tables = [
         (1, 0x80, 9), (1, 0x90, 9), (1, 0xA0, 9), (2, 0xA0, 14), (2, 0xB0, 14),
         (4, 0x320, 4), (4, 0x330, 32), (4, 0x410, 6), (4, 0x430, 48),
@@ -120,9 +155,9 @@ fn cards<S: Subject>(d: &mut Driver<S>) {
     point(1, 0x6D, (Some(0x0F), Some(0), Some(0)));
     point(2, 0x32, (Some(0xFF), Some(0), Some(0)));
     // "In each row the two masks share no bit."
-    for chip in 1..=4 {
+    for (chip, rows) in (1..).zip([256, 256, 256, 1280, 768]) {
         let card = chip_of(chip).unwrap().card;
-        hold(card.len() == if chip == 4 { 1280 } else { 256 }, "the rows of a card", &chip);
+        hold(card.len() == rows, "the rows of a card", &chip);
         for (at, (mask, clears, power_on)) in card.iter().copied().enumerate() {
             hold(mask & clears == 0, "the two masks share no bit", &(chip, at));
             point(chip, at, (Some(mask), Some(clears), Some(power_on)));
@@ -130,10 +165,26 @@ fn cards<S: Subject>(d: &mut Driver<S>) {
     }
 }
 
-/// Chip 4 on a bus: what is written, and what is read then.
+/// An address and a byte that is written there, and what is then read at addresses.
+type Step = ((u8, u8), &'static [(u8, u8)]);
+
+/// Steps on a bus after a reset: the image, and where it differs.
+fn bus<S: Subject>(d: &mut Driver<S>, chip: u8, steps: &[Step]) -> (Vec<u8>, Vec<usize>) {
+    let reset = power_on(d, chip);
+    let mut image = reset.clone();
+    for &((address, byte), reads) in steps {
+        d.write(chip, &mut image, address, byte);
+        for &(at, want) in reads {
+            hold(d.read(chip, &image, at) == (0, want), "banks", &(chip, (address, byte), (at, want)));
+        }
+    }
+    let changed = (0..image.len()).filter(|at| image[*at] != reset[*at]).collect();
+    (image, changed)
+}
+
+/// Chips 4 and 5 on a bus: what is written, and what is read then.
 fn banks<S: Subject>(d: &mut Driver<S>) {
-    let mut image = power_on(d, 4);
-    let steps: [((u8, u8), &[(u8, u8)]); 5] = [
+    let steps: [Step; 5] = [
         // Bank 3, and bits 7 to 3 can't be written.
         ((0xFF, 0x83), &[(0xFF, 0x03), (0x20, 0x5A), (0x7A, 0x50)]),
         ((0x20, 0x55), &[(0x20, 0x55)]),
@@ -142,14 +193,7 @@ fn banks<S: Subject>(d: &mut Driver<S>) {
         ((0x20, 0x11), &[(0x20, 0x00)]),
         ((0xFF, 0x04), &[(0x10, 0x5A), (0x20, 0x53)]),
     ];
-    let reset = image.clone();
-    for ((address, byte), reads) in steps {
-        d.write(4, &mut image, address, byte);
-        for (address, byte) in reads {
-            hold(d.read(4, &image, *address) == (0, *byte), "banks of chip 4", &(address, byte));
-        }
-    }
-    let changed: Vec<usize> = (0..1280).filter(|at| image[*at] != reset[*at]).collect();
+    let (mut image, changed) = bus(d, 4, &steps);
     hold(changed == [0xFF, 0x320], "the bytes that were written", &changed);
     // "The bank selected is what the bank bits [...] say, whatever its other bits hold"; these keep.
     image[0xFF] = 0x2C;
@@ -157,10 +201,37 @@ fn banks<S: Subject>(d: &mut Driver<S>) {
     d.write(4, &mut image, 0xFF, 0x03);
     hold(image[0xFF] == 0x2B, "bits 7 to 3 are kept", &image[0xFF]);
     hold(d.read(4, &image, 0x20) == (0, 0x55), "bank 3 is selected", &0x2B);
+    // Chip 5: bank 2, and of the bank select register bits 6 to 3 can't be written. The vendor's
+    // byte is the high one, with bit 7 and without it.
+    let steps: [Step; 8] = [
+        ((0x00, 0xFA), &[(0x00, 0x82), (0x30, 0x1E), (0xC5, 0x00), (0x0D, 0x5C), (0x0E, 0x7B)]),
+        ((0x30, 0x9F), &[(0x30, 0x1F)]),
+        ((0x38, 0xFF), &[(0x38, 0x3F)]),
+        // Banks the sheet lacks.
+        ((0x00, 0x03), &[(0x00, 0x03), (0x30, 0x00), (0x0D, 0x5C), (0x0E, 0x7B)]),
+        ((0x30, 0x11), &[(0x30, 0x00)]),
+        ((0x00, 0x84), &[(0x00, 0x84), (0xC5, 0x00), (0x0D, 0x5C)]),
+        // Bank 0; what identifies the chip can't be written, in any bank.
+        ((0x00, 0x00), &[(0x00, 0x00), (0xC5, 0x50), (0x0D, 0x5C)]),
+        ((0x0D, 0xA3), &[(0x0D, 0x5C)]),
+    ];
+    let (mut image, changed) = bus(d, 5, &steps);
+    hold(changed == [0x00, 0x230, 0x238], "the bytes that were written", &changed);
+    image[0x00] = 0x6A;
+    hold(d.read(5, &image, 0x30) == (0, 0x1F), "bank 2 is selected", &0x6A);
+    d.write(5, &mut image, 0x00, 0x90);
+    hold(image[0x00] == 0xE8, "bits 6 to 3 are kept", &image[0x00]);
+    for select in 0..=255 {
+        image[0x00] = select;
+        hold(d.read(5, &image, 0x0D) == (0, 0x5C), "the vendor's high byte", &select);
+        hold(d.read(5, &image, 0x00) == (0, select), "the bank select register", &select);
+    }
     // 3 comes before 8.
-    hold(d.read(5, &image, 0) == (3, 0) && d.read(5, &[], 0) == (3, 0), "3 before 8", &5);
-    for chip in 1..=4 {
-        for length in [0, 255, 256, 257, 1279, 1280, 1281] {
+    for chip in [0, 6, 255] {
+        hold(d.read(chip, &image, 0) == (3, 0) && d.read(chip, &[], 0) == (3, 0), "3 before 8", &chip);
+    }
+    for chip in 1..=5 {
+        for length in [0, 255, 256, 257, 767, 768, 769, 1279, 1280, 1281] {
             let mut image = vec![0; length];
             let want = if length == model::image_length(chip) { 0 } else { 8 };
             let refusals = [d.write(chip, &mut image, 9, 9), d.read(chip, &image, 9).0, d.reset(chip, &mut image)];
@@ -170,7 +241,7 @@ fn banks<S: Subject>(d: &mut Driver<S>) {
 }
 
 fn identities<S: Subject>(d: &mut Driver<S>) {
-    for (chip, want) in [(1, 0), (2, 0), (3, 10), (4, 0)] {
+    for (chip, want) in [(1, 0), (2, 0), (3, 10), (4, 0), (5, 0)] {
         let image = power_on(d, chip);
         hold(d.identity(chip, &image) == want, "identity at power-on", &chip);
     }
@@ -192,6 +263,27 @@ fn identities<S: Subject>(d: &mut Driver<S>) {
             let want = if bit + named >= 8 { 10 } else { 0 };
             hold(d.identity(4, &image) == want, "one bit of it", &(at, bit));
             image[at] ^= 1 << bit;
+        }
+    }
+}
+
+/// Chip 5: every byte of its three registers, whichever bank is selected, of which 0Fh may hold
+/// two; the same addresses of the other pages don't count.
+fn one_of<S: Subject>(d: &mut Driver<S>) {
+    let good: [(usize, &[u8]); 3] = [(0x0D, &[0x5C]), (0x0E, &[0x7B]), (0x0F, &[0x11, 0x12])];
+    for byte in 0..=255 {
+        for (at, held) in good {
+            let mut image = power_on(d, 5);
+            image[0x00] = byte;
+            image[0x0F] = [0x11, 0x12][usize::from(byte % 2)];
+            image[0x100 + at] = byte;
+            image[0x200 + at] = !byte;
+            hold(d.identity(5, &image) == 0, "identity of chip 5", &(at, byte));
+            image[at] = byte;
+            let want = if held.contains(&byte) { 0 } else { 10 };
+            hold(d.identity(5, &image) == want, "one of these", &(at, byte));
+            let played = d.play(Plan { chip: 5, table: 6, body: &FIVE[4..] }, &mut image, 99);
+            hold(played == if want == 0 { (0, 25) } else { (10, 0) }, "a play asks it", &(at, byte));
         }
     }
 }
@@ -345,13 +437,32 @@ fn speeds<S: Subject>(d: &mut Driver<S>) {
     for (t, want) in [(-128, 0), (-20, 0), (-10, 32), (0, 64), (10, 96), (35, 191), (50, 255), (126, 255)] {
         hold(d.asked_of_plan(plan, t as u8) == (0, want), "signed degrees", &t);
     }
-    // What the image asks doesn't go by the bank selected.
+    // Chip 5: seven points, and the greatest duty is 63, at and above critical.
+    let plan = Plan { chip: 5, table: 1, body: &FIVE[4..] };
+    let wanted = [
+        (0x80, 8), (0xFF, 8), (0x00, 8), (0x1E, 8), (0x1F, 8), (0x21, 10), (0x2A, 19), (0x2F, 27), (0x35, 41),
+        (0x3A, 52), (0x3C, 56), (0x4F, 56), (0x50, 63), (0x7F, 63),
+    ];
+    for (t, want) in wanted {
+        for table in 1..=6 {
+            let plan = Plan { table, ..plan };
+            hold(d.asked_of_plan(plan, t) == (0, want), "duties of chip 5", &(table, t));
+        }
+    }
+    // What the image asks doesn't go by the bank selected. Chip 5 has the plan above at power-on,
+    // in all six tables.
     for select in 0..=255 {
         let mut image = power_on(d, 4);
         image[0xFF] = select;
         image[0x415] = 0x28;
         let asked = [(1, 60), (1, 90), (10, 39), (10, 40)].map(|(table, t)| d.asked_of_image(4, table, &image, t));
         hold(asked == [(0, 230), (0, 255), (0, 182), (0, 255)], "in their own banks", &select);
+        let mut image = power_on(d, 5);
+        image[0x00] = select;
+        for (t, want) in wanted {
+            let asked = d.asked_of_image(5, 1 + select % 6, &image, t);
+            hold(asked == (0, want), "in their own banks", &(select, t));
+        }
     }
     // "B1 = 60, B2 = 50: 61 asks C1, 60 and 51 ask C2."
     let plan = Plan { chip: 2, table: 1, body: &[60, 50, 40, 30, 1, 2, 3, 4, 5, 6, 7, 8, 9, 10] };
@@ -385,14 +496,88 @@ fn records<S: Subject>(d: &mut Driver<S>) {
         let (refusal, length) = d.translate(input, &mut out);
         hold(refusal == 0 && &out[..length] == text.as_bytes(), text, &input);
     }
-    let refused = [(&EXAMPLE[..3], 1), (&[0x43, 0x51, 9, 9], 2), (&[0x43, 0x50, 9, 9], 3),
+    let refused = [(&EXAMPLE[..3], 1), (&[0x43, 0x52, 9, 9], 2), (&[0x43, 0x50, 9, 9], 3),
         (&[0x43, 0x50, 3, 1], 4), (&EXAMPLE[..12], 5), (&[0x43, 0x50, 4, 0], 4), (&[0x43, 0x50, 4, 11], 4),
-        (&[0x43, 0x50, 4, 10], 5), (&FOUR[1].0[..12], 5), (&[0x43, 0x50, 5, 1], 3)];
+        (&[0x43, 0x50, 4, 10], 5), (&FOUR[1].0[..12], 5), (&[0x43, 0x50, 6, 1], 3)];
     for (input, refusal) in refused {
-        hold(d.read_record(input).0 == refusal, "the refusal table", &input);
-        let (_, length) = d.translate(input, &mut out);
-        let text = format!("plan 1 refused {}\n", refusal);
-        hold(&out[..length] == text.as_bytes(), &text, &input);
+        refused_record(d, input, refusal);
+    }
+}
+
+/// A record that is refused, and its text.
+fn refused_record<S: Subject>(d: &mut Driver<S>, input: &[u8], refusal: u32) {
+    let mut out = [0; 300];
+    hold(d.read_record(input).0 == refusal, "the refusal table", &(input, refusal));
+    let (_, length) = d.translate(input, &mut out);
+    let text = format!("plan 1 refused {}\n", refusal);
+    hold(&out[..length] == text.as_bytes(), &text, &input);
+}
+
+/// Both forms of a record: chip 5's worked out, in all six tables, and the refusals in their order.
+fn forms<S: Subject>(d: &mut Driver<S>) {
+    let mut out = [0; 300];
+    for table in 1..=6u8 {
+        let mut record = FIVE;
+        record[3] = table;
+        let (refusal, chip, number, body, used) = d.read_record(&record);
+        hold((refusal, chip, number, used) == (0, 5, table, 20), "a record of chip 5", &record);
+        hold(body == record[4..], "its point count and its values", &record);
+        let plan = Plan { chip, table, body: &body };
+        hold(d.write_record(plan, &mut [0; 19]) == (9, 0), "19 bytes are too few", &plan);
+        hold(d.write_record(plan, &mut out) == (0, 20) && out[..20] == record, "written again", &plan);
+        hold(d.script(plan, &mut [0; 49]) == (9, 0), "49 bytes are too few", &plan);
+        hold(d.script(plan, &mut out) == (0, 25), "25 writes", &plan);
+        // Another table has the other addresses, 10h apart, and the same selects and critical.
+        for (k, pair) in out[..50].chunks(2).enumerate() {
+            let address = match k {
+                1..=7 => 0x28 + 0x10 * table + (k - 1) as u8,
+                8..=14 => 0x20 + 0x10 * table + (k - 8) as u8,
+                16 => 0xC5,
+                18..=24 => 0x28 + 0x10 * table + (k - 18) as u8,
+                _ => 0x00,
+            };
+            hold(pair[0] == address, "the addresses of a script", &(table, k));
+        }
+    }
+    let (refusal, length) = d.translate(&FIVE, &mut out);
+    hold(refusal == 0 && &out[..length] == FIVE_TEXT.as_bytes(), FIVE_TEXT, &FIVE);
+    // Both marks in one input, and each record is used up to its end.
+    let both = [&FIVE[..], &EXAMPLE, &FIVE, &FOUR[0].0].concat();
+    let (refusal, length) = d.translate(&both, &mut [0; 2000]);
+    let lines = [FIVE_TEXT, TEXT, FIVE_TEXT, FOUR[0].1].map(|text| text.len() - "end 1\n".len());
+    hold((refusal, length) == (0, lines.iter().sum::<usize>() + 6), "both marks in one input", &both);
+    // "43h 51h serves only chip 5", "16, straight after 4"; "if the count byte is there"; "5 if it
+    // is missing or the body is cut".
+    let refused: [(&[u8], u32); 27] = [
+        (&[0x43, 0x51, 5], 1), (&[0x43, 0x51], 1), (&[0x43], 1),
+        (&[0x43, 0x52, 5, 1], 2), (&[0x43, 0x4F, 5, 1], 2), (&[0x42, 0x51, 5, 1], 2), (&[0x51, 0x43, 5, 1], 2),
+        (&[0x43, 0x51, 6, 1], 3), (&[0x43, 0x51, 0, 1], 3), (&[0x43, 0x51, 255, 1, 7], 3),
+        (&[0x43, 0x51, 3, 1], 4), (&[0x43, 0x51, 5, 7], 4), (&[0x43, 0x50, 5, 7], 4),
+        (&[0x43, 0x51, 5, 0], 4), (&[0x43, 0x51, 1, 4], 4), (&[0x43, 0x51, 5, 7, 8], 4),
+        (&[0x43, 0x50, 5, 1], 16), (&[0x43, 0x51, 1, 1], 16), (&[0x43, 0x51, 2, 1], 16),
+        (&[0x43, 0x51, 4, 1], 16), (&[0x43, 0x51, 5, 1, 6], 16), (&[0x43, 0x51, 5, 1, 8], 16),
+        (&[0x43, 0x51, 5, 6, 0], 16), (&[0x43, 0x51, 1, 3, 4], 16),
+        (&[0x43, 0x51, 5, 1], 5), (&[0x43, 0x51, 5, 1, 7], 5), (&FIVE[..19], 5),
+    ];
+    for (input, refusal) in refused {
+        refused_record(d, input, refusal);
+    }
+    // Good records but for the mark: what stands behind the table's number is not looked at.
+    for record in [&EXAMPLE[..], &FOUR[0].0, &FOUR[1].0, &FIVE] {
+        let mut other = record.to_vec();
+        other[1] ^= 0x01;
+        refused_record(d, &other, 16);
+    }
+    // A whole body with each other point count, and with as many points as it says.
+    for count in (0..=255).filter(|count| *count != 7) {
+        let mut other = FIVE.to_vec();
+        other[4] = count;
+        refused_record(d, &other, 16);
+    }
+    for points in [2, 3, 4, 5, 6, 8] {
+        let temperatures = (1..=points + 1).map(|k| 10 * k);
+        let other = [0x43, 0x51, 5, 1, points].into_iter().chain(temperatures).chain(1..=points).collect::<Vec<u8>>();
+        refused_record(d, &other, 16);
     }
 }
 
@@ -406,18 +591,18 @@ fn cut_bodies<S: Subject>(d: &mut Driver<S>) {
         [d.write_record(plan, &mut out).0, d.script(plan, &mut out).0, d.play(plan, image, 99).0, asked]
     };
     let two = [60, 50, 40, 30, 1, 255, 2, 0, 3, 0, 8, 0, 255, 255];
-    for (chip, body) in [(1, &EXAMPLE[4..]), (2, &two), (4, &FOUR[0].0[4..])] {
+    for (chip, body) in [(1, &EXAMPLE[4..]), (2, &two), (4, &FOUR[0].0[4..]), (5, &FIVE[4..])] {
         let image = model::image_length(chip);
         for length in 0..body.len() {
             let cut = &body[..length];
-            hold(refusals(chip, 1, cut, 48, &mut vec![0; image]) == [5; 4], "a cut body", &cut);
+            hold(refusals(chip, 1, cut, 50, &mut vec![0; image]) == [5; 4], "a cut body", &cut);
             hold(refusals(chip, 1, cut, 0, &mut []) == [5; 4], "5 before 8, 9 and 10", &cut);
             hold(refusals(chip, 0, cut, 0, &mut []) == [4; 4], "4 before 5", &cut);
             hold(refusals(3, 1, cut, 0, &mut []) == [4; 4], "no table of chip 3", &cut);
-            hold(refusals(5, 1, cut, 0, &mut []) == [3; 4], "3 before 5", &cut);
+            hold(refusals(6, 1, cut, 0, &mut []) == [3; 4], "3 before 5", &cut);
         }
         hold(refusals(chip, 1, body, 12, &mut vec![0; image - 1]) == [9, 9, 8, 0], "a whole body", &body);
-        hold(refusals(chip, 1, body, 48, &mut vec![0; image]) == [0, 0, 10, 0], "a whole body", &body);
+        hold(refusals(chip, 1, body, 50, &mut vec![0; image]) == [0, 0, 10, 0], "a whole body", &body);
     }
     // Out of order, but 6 and 7 only when the body is whole; what is asked is refused by neither.
     let unordered = [40; 14];
@@ -434,6 +619,86 @@ fn cut_bodies<S: Subject>(d: &mut Driver<S>) {
     let falling = [40, 10, 20, 30, 40, 4, 3, 2, 1];
     hold(refusals(4, 10, &falling[..8], 48, &mut [0; 1280]) == [5; 4], "5 before 7", &4);
     hold(refusals(4, 10, &falling, 0, &mut []) == [7, 7, 7, 0], "then 7", &4);
+    // Chip 5: 16 for the point count, between 4 and 5, whatever else is wrong.
+    for count in [0, 1, 6, 8, 255] {
+        let mut body = [40; 16];
+        body[0] = count;
+        for length in 1..=16 {
+            hold(refusals(5, 6, &body[..length], 0, &mut []) == [16; 4], "16 before 5 to 10", &count);
+            hold(refusals(5, 7, &body[..length], 0, &mut []) == [4; 4], "4 before 16", &count);
+            hold(refusals(6, 7, &body[..length], 0, &mut []) == [3; 4], "3 before 16", &count);
+        }
+    }
+    let mut body = [40; 16];
+    body[0] = 7;
+    hold(refusals(5, 6, &body[..15], 0, &mut []) == [5; 4], "5 before 6", &5);
+    hold(refusals(5, 6, &body, 0, &mut []) == [6, 6, 6, 0], "then 6", &5);
+    let falling = [7, 10, 20, 30, 40, 50, 60, 70, 70, 9, 8, 7, 6, 5, 4, 3];
+    hold(refusals(5, 3, &falling[..15], 50, &mut [0; 768]) == [5; 4], "5 before 7", &5);
+    hold(refusals(5, 3, &falling, 0, &mut []) == [7, 7, 7, 0], "then 7", &5);
+}
+
+/// Chip 5's registers have seven bits and six: "6 and 7 also for a value its register's writable
+/// bits can't hold"; what an image holds in the other bits counts as zero.
+fn narrow_registers<S: Subject>(d: &mut Driver<S>) {
+    let mut judged = |changes: &[(usize, u8)]| {
+        let mut body = FIVE[4..].to_vec();
+        changes.iter().for_each(|(k, byte)| body[*k] = *byte);
+        d.judge(Plan { chip: 5, table: 2, body: &body })
+    };
+    // The order of signed degrees, and the ends of the ranges.
+    hold(judged(&[(1, 0x00), (7, 0x7F), (8, 0x7F), (9, 0x00), (15, 0x3F)]) == 0, "the ends", &5);
+    hold(judged(&[(7, 0x50)]) == 0, "T7 is critical", &5);
+    hold(judged(&[(7, 0x51)]) == 6, "T7 is above critical", &5);
+    for k in 1..=6 {
+        hold(judged(&[(k, FIVE[5 + k])]) == 6, "two temperatures are the same", &k);
+    }
+    for k in 9..=14 {
+        hold(judged(&[(k, FIVE[5 + k])]) == 0, "two duties are the same", &k);
+        hold(judged(&[(k, FIVE[5 + k] + 1)]) == 7, "a duty falls", &k);
+    }
+    // T1 below zero is in order and fits no register; so are temperatures and duties with bits
+    // more.
+    hold(judged(&[(1, 0x80)]) == 6 && judged(&[(1, 0xFF)]) == 6, "below zero", &5);
+    for k in 1..=8 {
+        hold(judged(&[(k, FIVE[4 + k] | 0x80)]) == 6, "bit 7 of a temperature", &k);
+        hold(judged(&[(k, FIVE[4 + k] | 0x80), (15, 0x40)]) == 6, "6 before 7", &k);
+    }
+    hold(judged(&[(15, 0x40)]) == 7 && judged(&[(15, 0xFF)]) == 7, "a duty of seven bits", &5);
+    for k in 9..=15 {
+        hold(judged(&[(k, FIVE[4 + k] | 0x40)]) == 7, "bit 6 of a duty", &k);
+        hold(judged(&[(k, FIVE[4 + k] | 0x80)]) == 7, "bit 7 of a duty", &k);
+    }
+    // The same curve with all other bits on.
+    let registers = model::registers(5, 2).unwrap();
+    let values: Vec<u8> = (0..15).map(|k| FIVE[5 + k] | if k < 8 { 0x80 } else { 0xC0 }).collect();
+    let mut image = power_on(d, 5);
+    put(&mut image, registers, &values);
+    let asked = d.asked_of_image_at_all(5, 2, &image);
+    let planned = d.asked_of_plan_at_all(Plan { chip: 5, table: 2, body: &FIVE[4..] });
+    hold(asked == planned, "9Eh in a temperature's register is 1Eh", &image);
+    // A play leaves these bits.
+    hold(d.play(Plan { chip: 5, table: 2, body: &FIVE[4..] }, &mut image, 99) == (0, 25), "25 writes", &image);
+    let held: Vec<u8> = registers.iter().map(|at| image[*at]).collect();
+    hold(held == values && image[0x00] == 0x02, "reserved bits are kept", &held);
+}
+
+/// Critical of chip 5 is one register: a play of one table moves the other five's, and nothing else
+/// of them.
+fn shared_critical<S: Subject>(d: &mut Driver<S>) {
+    for played in 1..=6 {
+        let before = power_on(d, 5);
+        let mut image = before.clone();
+        let mut body = FIVE[4..].to_vec();
+        body[8] = 0x46;
+        hold(d.play(Plan { chip: 5, table: played, body: &body }, &mut image, 25) == (0, 25), "25 writes", &played);
+        let changed: Vec<usize> = (0..768).filter(|at| image[*at] != before[*at]).collect();
+        hold(changed == [0x00, 0xC5] && image[0xC5] == 0x46, "the bytes that were written", &changed);
+        for table in 1..=6 {
+            let asked = [0x45, 0x46, 0x4F].map(|t| d.asked_of_image(5, table, &image, t).1);
+            hold(asked == [56, 63, 63], "critical of all six tables", &(played, table));
+        }
+    }
 }
 
 /// The two mistakes about order, and that the check for them would have found them.
@@ -442,7 +707,7 @@ fn half_loaded<S: Subject>(d: &mut Driver<S>) {
     // either."
     let old = power_on(d, 1);
     let plan = Plan { chip: 1, table: 3, body: &[35, 45, 55, 65, 75, 0x8C, 0xDC, 0xF0, 0xFA] };
-    let mut out = [0; 48];
+    let mut out = [0; 50];
     let (_, writes) = d.script(plan, &mut out);
     hold(never_slower(d, plan, &old, &out[..2 * writes]), "the script of chip 1", &plan);
     let wrong: Vec<u8> = (0..9).flat_map(|k| [0xA0 + k, plan.body[usize::from(k)]]).collect();
@@ -467,4 +732,29 @@ fn half_loaded<S: Subject>(d: &mut Driver<S>) {
     hold(never_slower(d, plan, &old, &wrong), "writes in another bank leave the curve", &plan);
     let wrong = [&[0xFF, 0x03, 0x21, 0x5F], &wrong[..]].concat();
     hold(!never_slower(d, plan, &old, &wrong), "the body's order is found out", &plan);
+    // Chip 5 with bank 1 selected. Critical before the raises spares two selects, and is found out
+    // where it rises; so is a select that is missing, behind critical or before it.
+    let mut old = power_on(d, 5);
+    old[0x00] = 0x79;
+    let body = [7, 35, 40, 45, 50, 55, 60, 65, 95, 0x10, 0x18, 0x20, 0x28, 0x30, 0x38, 0x3E];
+    let plan = Plan { chip: 5, table: 3, body: &body };
+    let (_, writes) = d.script(plan, &mut out);
+    let right = out[..2 * writes].to_vec();
+    hold(never_slower(d, plan, &old, &right), "the script of chip 5", &plan);
+    let wrong = [&right[30..36], &right[2..30], &right[36..]].concat();
+    hold(!never_slower(d, plan, &old, &wrong), "critical first is found out", &plan);
+    let wrong = [&right[..2], &right[16..30], &right[2..16], &right[30..]].concat();
+    hold(!never_slower(d, plan, &old, &wrong), "temperatures first are found out", &plan);
+    let mut ends = |script: &[u8]| {
+        let mut image = old.clone();
+        script.chunks(2).for_each(|pair| {
+            d.write(5, &mut image, pair[0], pair[1]);
+        });
+        d.asked_of_image_at_all(5, 3, &image) == d.asked_of_plan_at_all(plan)
+    };
+    hold(ends(&right), "the script ends at the plan", &plan);
+    for select in [0, 30, 34] {
+        let wrong = [&right[..select], &right[select + 2..]].concat();
+        hold(!ends(&wrong), "a select that is missing is found out", &select);
+    }
 }

@@ -34,6 +34,15 @@ int main(void) {
     same("used of chip 4", (long)yk_record_used(packed(0, 13 + 256 * 4 + 65536 * 10)), 13);
     same("chip 4", yk_record_chip(packed(0, 13 + 256 * 4 + 65536 * 10)), 4);
     same("table 10", yk_record_table(packed(0, 13 + 256 * 4 + 65536 * 10)), 10);
+    same("used of chip 5", (long)yk_record_used(packed(0, 20 + 256 * 5 + 65536 * 6)), 20);
+    same("chip 5", yk_record_chip(packed(0, 20 + 256 * 5 + 65536 * 6)), YK_W83793G);
+    same("table 6", yk_record_table(packed(0, 20 + 256 * 5 + 65536 * 6)), 6);
+    same("form", yk_refusal(packed(16, 0)), YK_REFUSED_FORM);
+    /* The sizes of chip 5, whose record and script are the longest. */
+    same("three banks", YK_IMAGE_CHIP_5, 3 * 256);
+    same("count, points and critical", YK_BODY_CHIP_5, 1 + 7 + 1 + 7);
+    same("the longest record", YK_RECORD_MAX, 4 + YK_BODY_CHIP_5);
+    same("the longest script", YK_SCRIPT_MAX, 2 * (7 + 7 + 1 + 7 + 3));
     for (facts = 0; facts < 8; facts++) {
         same("hot", yk_facts_hot(packed(12, facts)), facts % 2);
         same("pending", yk_facts_pending(packed(0, facts)), facts / 2 % 2);

@@ -2,7 +2,7 @@
 
 use crate::chips::{chip_of, Chip};
 
-/// The chip of an image, or 3, or 8, which for chip 4 "asks its own image length".
+/// The chip of an image, or 3, or 8, which "asks its own image length" of a chip with banks.
 pub fn image_of(chip: u8, length: usize) -> Result<&'static Chip, u32> {
     let chip = chip_of(chip).ok_or(3u32)?;
     if length == chip.card.len() {
@@ -70,7 +70,7 @@ pub fn identity(chip: u8, image: &[u8]) -> u32 {
         Err(refusal) => return refusal,
     };
     match chip.identity {
-        Some(bits) if bits.iter().all(|(at, mask, held)| image[*at] & mask == *held) => 0,
+        Some(bits) if bits.iter().all(|(at, mask, held)| held.admits(image[*at] & mask)) => 0,
         _ => 10,
     }
 }

@@ -160,7 +160,7 @@ impl Subject for Library {
         self.sample(watch, 2048, 0, 0).2
     }
 
-    /// Writing a script checks the plan and then 9, and 48 bytes are enough.
+    /// Writing a script checks the plan and then 9, and 50 bytes are enough.
     fn judge(&self, plan: Plan) -> u32 {
         self.script(plan, &mut [0; SCRIPT]).0
     }

@@ -1,15 +1,16 @@
 //! A small seeded generator (xorshift) and the drafts it makes: boundary values come often.
 
-use crate::chips::{chip_of, Curve};
+use crate::chips::{chip_of, Chip, Curve, PLAIN};
 use crate::model::{self, Plan};
 
 const BYTES: [u8; 6] = [0, 1, 127, 128, 254, 255];
-const LENGTHS: [usize; 20] = [
-    0, 3, 4, 12, 13, 17, 18, 25, 26, 27, 28, 47, 48, 255, 256, 257, 300, 1279, 1280, 1281,
+const LENGTHS: [usize; 27] = [
+    0, 3, 4, 12, 13, 17, 18, 19, 20, 25, 26, 27, 28, 47, 48, 49, 50, 255, 256, 257, 300, 767, 768, 769,
+    1279, 1280, 1281,
 ];
 
 /// The chips that have fan tables.
-pub const PLANNED: [u8; 3] = [1, 2, 4];
+pub const PLANNED: [u8; 4] = [1, 2, 4, 5];
 
 pub struct Random(u64);
 
@@ -26,18 +27,16 @@ impl Draft {
         Plan { chip: self.chip, table: self.table, body: &self.body }
     }
 
-    /// The record of these bytes, whatever they are: mark, chip, table, body.
+    /// The record of these bytes, whatever they are: the mark that goes with the chip, chip, table,
+    /// body.
     pub fn record(&self) -> Vec<u8> {
-        let mut bytes = vec![0x43, 0x50, self.chip, self.table];
-        bytes.extend_from_slice(&self.body);
-        bytes
+        let form = chip_of(self.chip).map_or(&PLAIN, |chip| chip.form);
+        [&form.mark[..], &[self.chip, self.table], &self.body].concat()
     }
-}
 
-/// Makes the image one that its chip confirms.
-fn identify(chip: u8, image: &mut [u8]) {
-    for (at, mask, held) in chip_of(chip).and_then(|chip| chip.identity).unwrap_or(&[]) {
-        image[*at] = image[*at] & !mask | held;
+    /// The bytes of the table's registers: the body behind a point count.
+    pub fn values_mut(&mut self) -> &mut [u8] {
+        &mut self.body[chip_of(self.chip).map_or(0, Chip::head)..]
     }
 }
 
@@ -88,7 +87,7 @@ impl Random {
         if self.once_in(8) {
             self.byte()
         } else {
-            1 + self.below(4) as u8
+            1 + self.below(5) as u8
         }
     }
 
@@ -155,7 +154,7 @@ impl Random {
         if kind < 2 {
             model::reset(chip, &mut image);
         } else if kind < 4 {
-            identify(chip, &mut image);
+            self.identify(chip, &mut image);
         }
         if kind == 1 || kind == 3 {
             let at = self.below(image.len());
@@ -167,50 +166,68 @@ impl Random {
     /// A random image whose identity is confirmed.
     pub fn confirmed(&mut self, chip: u8) -> Vec<u8> {
         let mut image = self.bytes(model::image_length(chip));
-        identify(chip, &mut image);
+        self.identify(chip, &mut image);
         image
     }
 
-    fn four_temperatures(&mut self) -> Vec<u8> {
-        loop {
-            let mut four = self.bytes(4);
-            four.sort_unstable();
-            four.dedup();
-            if four.len() == 4 {
-                return four;
-            }
+    /// Makes the image one that its chip confirms.
+    fn identify(&mut self, chip: u8, image: &mut [u8]) {
+        for (at, mask, held) in chip_of(chip).and_then(|chip| chip.identity).unwrap_or(&[]) {
+            image[*at] = image[*at] & !mask | held.bytes()[self.below(held.bytes().len())];
         }
     }
 
-    /// A body whose temperatures and speeds are in order; where the chip has no fan table, one of
-    /// chip 2.
-    pub fn ordered(&mut self, chip: u8) -> Vec<u8> {
-        let mut body = self.four_temperatures();
-        match chip_of(chip) {
-            Some(chip) if chip.curve == Curve::Slope => {
-                let mut points = body;
-                // Turning the top bit makes the order that of signed degrees.
-                let critical = points[3] + self.below(256 - usize::from(points[3])) as u8;
-                points.push(if self.once_in(4) { points[3] } else { critical });
-                body = vec![0; 5];
-                for (at, t) in chip.temperatures.iter().zip(points) {
-                    body[*at] = t ^ 0x80;
-                }
-                let mut duties = self.bytes(4);
-                duties.sort_unstable();
-                body.extend(duties);
-            }
-            _ => {
-                body.reverse();
-                let near = self.once_in(3);
-                let (high, low) = (self.byte(), self.byte());
-                let mut counts: Vec<[u8; 2]> = (0..5)
-                    .map(|_| if near { [high, low ^ (self.byte() & 3)] } else { [self.byte(), self.byte()] })
-                    .collect();
-                counts.sort_unstable();
-                body.extend(counts.concat());
+    /// Different bytes of these bits.
+    fn different(&mut self, count: usize, bits: u8) -> Vec<u8> {
+        let mut drawn = Vec::new();
+        while drawn.len() < count {
+            let byte = self.byte() & bits;
+            if !drawn.contains(&byte) {
+                drawn.push(byte);
             }
         }
+        drawn
+    }
+
+    /// A body whose temperatures and speeds are in order and fit their registers; where the chip
+    /// has no fan table, one of chip 2.
+    pub fn ordered(&mut self, chip: u8) -> Vec<u8> {
+        match chip_of(chip) {
+            Some(chip) if chip.curve == Curve::Slope => self.slope(chip),
+            _ => self.counts(),
+        }
+    }
+
+    fn slope(&mut self, chip: &Chip) -> Vec<u8> {
+        let bits = |k: usize| chip.card[chip.tables[0][k]].0;
+        let points = chip.speeds.len();
+        let mut temperatures = self.different(points, bits(chip.temperatures[0]));
+        temperatures.sort_unstable_by_key(|t| *t as i8);
+        let last = temperatures[points - 1] as i8;
+        // The greatest temperature is 127, whether its register has seven bits or eight.
+        let above = if self.once_in(4) { 0 } else { self.below((128 - i16::from(last)) as usize) };
+        temperatures.push((i16::from(last) + above as i16) as u8);
+        let mut duties: Vec<u8> = (0..points).map(|_| self.byte() & bits(chip.speeds[0])).collect();
+        duties.sort_unstable();
+        let mut body: Vec<u8> = chip.count().into_iter().collect();
+        body.resize(chip.head() + chip.tables[0].len(), 0);
+        let places = chip.temperatures.iter().chain(chip.speeds);
+        for (k, byte) in places.zip(temperatures.into_iter().chain(duties)) {
+            body[chip.head() + k] = byte;
+        }
+        body
+    }
+
+    fn counts(&mut self) -> Vec<u8> {
+        let mut body = self.different(4, 0xFF);
+        body.sort_unstable_by(|a, b| b.cmp(a));
+        let near = self.once_in(3);
+        let (high, low) = (self.byte(), self.byte());
+        let mut counts: Vec<[u8; 2]> = (0..5)
+            .map(|_| if near { [high, low ^ (self.byte() & 3)] } else { [self.byte(), self.byte()] })
+            .collect();
+        counts.sort_unstable();
+        body.extend(counts.concat());
         body
     }
 
@@ -226,11 +243,12 @@ impl Random {
         Draft { chip, table, body: self.ordered(chip) }
     }
 
-    /// Ordered and unordered plans, of all chips and tables, with short and long bodies.
+    /// Ordered and unordered plans, of all chips and tables, with short and long bodies, with a
+    /// point count that doesn't go with the chip and with values that no register holds.
     pub fn plan(&mut self) -> Draft {
         let mut draft = self.good_plan();
         let length = draft.body.len();
-        match self.below(10) {
+        match self.below(12) {
             0 => {
                 draft.chip = self.chip();
                 draft.table = self.table(draft.chip);
@@ -252,16 +270,28 @@ impl Random {
                 let end = self.below(20);
                 draft.body.resize(end, 0xA7);
             }
+            6 => self.unordered(&mut draft),
+            7 => draft.body[0] = self.below(10) as u8,
             _ => {}
         }
         draft
     }
 
-    /// The bytes of a record: good with or without a tail, cut short, damaged or random.
+    /// Any values, all of which the registers hold at times; a point count stays.
+    pub fn unordered(&mut self, draft: &mut Draft) {
+        let held = self.once_in(2);
+        let bits = model::masks(draft.chip, draft.table).unwrap_or_default();
+        for (byte, bits) in draft.values_mut().iter_mut().zip(bits) {
+            *byte = self.byte() & if held { bits } else { 0xFF };
+        }
+    }
+
+    /// The bytes of a record: good with or without a tail, cut short, damaged, with another mark or
+    /// random.
     pub fn record(&mut self) -> Vec<u8> {
         let draft = if self.once_in(3) { self.plan() } else { self.good_plan() };
         let mut bytes = draft.record();
-        match self.below(8) {
+        match self.below(10) {
             0 => {
                 let end = self.below(bytes.len() + 1);
                 bytes.truncate(end);
@@ -286,6 +316,14 @@ impl Random {
                 let tail = self.length();
                 let tail = self.bytes(tail);
                 bytes.extend(tail);
+            }
+            // Another mark, at times of a record that is cut short too.
+            6 => {
+                bytes[1] = [0x50, 0x51, 0x52][self.below(3)];
+                if self.once_in(3) {
+                    let end = 4 + self.below(bytes.len() - 3);
+                    bytes.truncate(end);
+                }
             }
             _ => {}
         }

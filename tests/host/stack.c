@@ -10,19 +10,20 @@ enum { SIZE = 1 << 18, PAINT = 0xA5 };
 
 static uint8_t painted[SIZE];
 static ucontext_t here, there;
-static uint8_t image[1280];
+static uint8_t image[YK_IMAGE_CHIP_4];
 static uint8_t input[YK_INPUT_MAX];
 static uint8_t out[YK_TEXT_MAX];
 static const int16_t samples[] = {1296, 1248, 1199};
 static volatile uint64_t answer;
 
-/* The chip that is asked, its image's length and a body of its table 3. */
-enum { BODY = 9 };
+/* The chip that is asked, its image's length and a record of its table 3. */
 static uint8_t chip;
-static size_t length;
-static const uint8_t *body;
-static const uint8_t body_1[BODY] = {0x1E, 0x28, 0x32, 0x37, 0x3C, 0x8C, 0xAA, 0xC8, 0xE6};
-static const uint8_t body_4[BODY] = {0x3C, 0x1E, 0x28, 0x32, 0x37, 0x8C, 0xAA, 0xC8, 0xE6};
+static size_t length, used;
+static const uint8_t *record;
+static const uint8_t record_1[] = {0x43, 0x50, 1, 3, 0x1E, 0x28, 0x32, 0x37, 0x3C, 0x8C, 0xAA, 0xC8, 0xE6};
+static const uint8_t record_4[] = {0x43, 0x50, 4, 3, 0x3C, 0x1E, 0x28, 0x32, 0x37, 0x8C, 0xAA, 0xC8, 0xE6};
+static const uint8_t record_5[] = {0x43, 0x51, 5,    3,    0x07, 0x1E, 0x23, 0x28, 0x2D, 0x32,
+                                   0x37, 0x3C, 0x50, 0x08, 0x0C, 0x10, 0x18, 0x20, 0x30, 0x38};
 
 static void nothing(void) {}
 static void do_write(void) { answer = yk_write(chip, image, length, 0x91, 0xFF); }
@@ -38,12 +39,12 @@ static void do_input_microvolts(void) { answer = yk_input_microvolts(0x68, 0x19,
 static void do_sample(void) { answer = yk_sample(YK_DEFAULT, 0, 1296, 80, 75); }
 static void do_run(void) { answer = yk_run(YK_DEFAULT, 0, samples, 3, 80, 75); }
 static void do_acknowledge(void) { answer = yk_acknowledge(YK_DEFAULT, 3); }
-static void do_read_record(void) { answer = yk_read_record(input, 4 + BODY); }
-static void do_write_record(void) { answer = yk_write_record(chip, 3, body, BODY, out, sizeof out); }
-static void do_asked_of_plan(void) { answer = yk_asked_of_plan(chip, 3, body, BODY, 33); }
+static void do_read_record(void) { answer = yk_read_record(input, used); }
+static void do_write_record(void) { answer = yk_write_record(chip, 3, record + 4, used - 4, out, sizeof out); }
+static void do_asked_of_plan(void) { answer = yk_asked_of_plan(chip, 3, record + 4, used - 4, 33); }
 static void do_asked_of_image(void) { answer = yk_asked_of_image(chip, 3, image, length, 33); }
-static void do_script(void) { answer = yk_script(chip, 3, body, BODY, out, sizeof out); }
-static void do_play(void) { answer = yk_play(chip, 3, body, BODY, image, length, 99); }
+static void do_script(void) { answer = yk_script(chip, 3, record + 4, used - 4, out, sizeof out); }
+static void do_play(void) { answer = yk_play(chip, 3, record + 4, used - 4, image, length, 99); }
 static void do_translate(void) { answer = yk_translate(input, sizeof input, out, sizeof out); }
 
 /* Bytes of the painted stack that a call changed. */
@@ -68,18 +69,16 @@ static void tell(const char *name, void (*call)(void))
 }
 
 /* The calls that take a chip, each of them accepted. */
-static void tell_chip(uint8_t number)
+static void tell_chip(size_t image_length, const uint8_t *plan, size_t plan_length)
 {
     size_t k;
-    chip = number;
-    length = number == 4 ? sizeof image : YK_IMAGE;
-    body = number == 4 ? body_4 : body_1;
-    for (k = 0; k + 4 + BODY <= sizeof input; k += 4 + BODY) {
-        const uint8_t head[] = {0x43, 0x50, number, 3};
-        memcpy(input + k, head, sizeof head);
-        memcpy(input + k + sizeof head, body, BODY);
-    }
-    printf("chip %u\n", number);
+    chip = plan[2];
+    length = image_length;
+    record = plan;
+    used = plan_length;
+    for (k = 0; k + used <= sizeof input; k += used)
+        memcpy(input + k, record, used);
+    printf("chip %u\n", chip);
     tell("yk_reset", do_reset);
     tell("yk_write", do_write);
     tell("yk_read", do_read);
@@ -104,7 +103,8 @@ int main(void)
     tell("yk_sample", do_sample);
     tell("yk_run", do_run);
     tell("yk_acknowledge", do_acknowledge);
-    tell_chip(1);
-    tell_chip(4);
+    tell_chip(YK_IMAGE, record_1, sizeof record_1);
+    tell_chip(YK_IMAGE_CHIP_4, record_4, sizeof record_4);
+    tell_chip(YK_IMAGE_CHIP_5, record_5, sizeof record_5);
     return 0;
 }

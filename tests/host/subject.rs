@@ -22,7 +22,8 @@ pub trait Subject {
     fn acknowledge(&self, watch: Watch) -> (Watch, bool);
     fn output(&self, watch: Watch) -> bool;
     /// The body is short or long at times: a short one is refused with 5, further bytes are
-    /// ignored. The same holds wherever a plan comes in.
+    /// ignored. Chip 5's begins with its point count, and any but 7 is refused with 16. The same
+    /// holds wherever a plan comes in.
     fn judge(&self, plan: Plan) -> u32;
     fn asked_of_plan(&self, plan: Plan, t: u8) -> (u32, u16);
     fn asked_of_image(&self, chip: u8, table: u8, image: &[u8], t: u8) -> (u32, u16);

@@ -2,11 +2,11 @@
 //! are checked on the agreed answers.
 
 use crate::driver::{hold, Driver, NAMES};
-use crate::model::{self, Plan, Watch, BODY, SCRIPT};
+use crate::model::{self, Plan, Watch, SCRIPT};
 use crate::random::{Draft, Random};
 use crate::restarts::restarts;
 use crate::rounds::{
-    cut_bodies, cuts, damaged_records, images, plans, plays, records, runs, texts, watches,
+    cut_bodies, cuts, damaged_records, images, plans, plays, records, runs, selects, texts, watches,
 };
 use crate::subject::Subject;
 
@@ -15,15 +15,17 @@ pub fn run<S: Subject>(d: &mut Driver<S>, seed: u64, rounds: usize) {
     let r = &mut Random::new(seed);
     every_chip(d, r);
     every_body(d, r);
+    every_count(d, r);
     every_write(d, r);
     every_select(d, r);
+    selects(d, r);
     every_flip(d);
     every_reading(d);
     every_right_reading(d);
     every_watch(d);
     every_run(d);
     long_runs(d);
-    damaged_records(d, r, 100 * rounds);
+    damaged_records(d, r, 40 * rounds);
     for _ in 0..10 * rounds {
         images(d, r, 10_000);
         watches(d, r, 2_000);
@@ -35,6 +37,7 @@ pub fn run<S: Subject>(d: &mut Driver<S>, seed: u64, rounds: usize) {
         cuts(d, r, 1, 8);
         cuts(d, r, 2, 8);
         cuts(d, r, 4, 250);
+        cuts(d, r, 5, 40);
         texts(d, r, 150);
     }
     restarts(d, r, 128 * rounds);
@@ -50,8 +53,8 @@ pub fn power_on<S: Subject>(d: &mut Driver<S>, chip: u8) -> Vec<u8> {
     image
 }
 
-/// Every chip number with every table number, and with images of every length to 300 and about
-/// 1,280.
+/// Every chip number with every table number, and with images of every length to 300, about 768 and
+/// about 1,280.
 fn every_chip<S: Subject>(d: &mut Driver<S>, r: &mut Random) {
     for chip in 0..=255 {
         for table in 0..=255 {
@@ -66,11 +69,11 @@ fn every_chip<S: Subject>(d: &mut Driver<S>, r: &mut Random) {
                 let mut out = vec![0x3C; r.length()];
                 d.script(draft.plan(), &mut out);
                 d.write_record(draft.plan(), &mut out);
-                d.play(draft.plan(), &mut image, r.below(26));
+                d.play(draft.plan(), &mut image, r.below(27));
             }
         }
-        for length in (0..=300).chain(1279..=1281) {
-            if chip > 5 && !r.once_in(20) {
+        for length in (0..=300).chain(767..=769).chain(1279..=1281) {
+            if chip > 6 && !r.once_in(20) {
                 continue;
             }
             let mut image = r.bytes(length);
@@ -97,9 +100,9 @@ fn every_body<S: Subject>(d: &mut Driver<S>, r: &mut Random) {
             for length in 0..=body.len() {
                 let plan = Plan { chip, table, body: &body[..length] };
                 let want = match (chip, table) {
-                    (1, 1..=3) | (2, 1..=2) | (4, 1..=10) if length < whole => 5,
-                    (1, 1..=3) | (2, 1..=2) | (4, 1..=10) => 0,
-                    (1..=4, _) => 4,
+                    (1, 1..=3) | (2, 1..=2) | (4, 1..=10) | (5, 1..=6) if length < whole => 5,
+                    (1, 1..=3) | (2, 1..=2) | (4, 1..=10) | (5, 1..=6) => 0,
+                    (1..=5, _) => 4,
                     _ => 3,
                 };
                 let refusals = [
@@ -109,6 +112,41 @@ fn every_body<S: Subject>(d: &mut Driver<S>, r: &mut Random) {
                     d.play(plan, &mut image, length).0,
                 ];
                 hold(refusals == [want; 4], "3, 4 and 5", &(plan, refusals));
+            }
+        }
+    }
+}
+
+/// Every point count of chip 5 with every table number that there is and those beside them, bodies
+/// whole and cut, values in order and not, outputs and images that could be refused too: "16,
+/// straight after 4", and before 5.
+fn every_count<S: Subject>(d: &mut Driver<S>, r: &mut Random) {
+    for table in 0..=7 {
+        for count in 0..=255 {
+            for length in [1, 2, 7, 15, 16, 17] {
+                let mut draft = Draft { chip: 5, table, body: r.ordered(5) };
+                if r.once_in(2) {
+                    r.unordered(&mut draft);
+                }
+                draft.body[0] = count;
+                draft.body.resize(length, 0);
+                let plan = draft.plan();
+                let mut out = vec![0x3C; r.length()];
+                let mut image = r.image(5);
+                let refusals = [
+                    d.asked_of_plan(plan, r.byte()).0,
+                    d.read_record(&draft.record()).0,
+                    d.write_record(plan, &mut out).0,
+                    d.script(plan, &mut out).0,
+                    d.play(plan, &mut image, r.below(27)).0,
+                ];
+                let want = match (table, count) {
+                    (0 | 7, _) => 4,
+                    (_, 7) if length < 16 => 5,
+                    (_, 7) => continue,
+                    _ => 16,
+                };
+                hold(refusals == [want; 5], "4, 16 and 5", &(&draft, refusals));
             }
         }
     }
@@ -128,43 +166,49 @@ fn every_write<S: Subject>(d: &mut Driver<S>, r: &mut Random) {
     }
 }
 
-/// Chip 4: every byte of the bank select register with every address. 7Ah, 7Bh, 7Ch and FFh are
-/// seen in every bank; "elsewhere in a bank the sheet lacks, writes change nothing and reads give 0".
+/// Chips with banks: every byte of the bank select register with every address. Of chip 4 7Ah, 7Bh,
+/// 7Ch and FFh are seen in every bank, of chip 5 00h, 0Dh, 0Eh and 0Fh; "elsewhere in a bank the
+/// sheet lacks, writes change nothing and reads give 0".
 fn every_select<S: Subject>(d: &mut Driver<S>, r: &mut Random) {
-    for select in 0..=255 {
-        let mut image = r.bytes(1280);
-        for address in 0..=255 {
-            image[0xFF] = select;
-            let bank = if [0x7A, 0x7B, 0x7C, 0xFF].contains(&address) { 0 } else { select % 8 };
-            let at = 256 * usize::from(bank) + usize::from(address);
-            let held = image.get(at).copied();
-            let inputs = (select, address);
-            hold(d.read(4, &image, address) == (0, held.unwrap_or(0)), "where a read lands", &inputs);
-            let mut before = image.clone();
-            d.write(4, &mut image, address, r.byte());
-            if held.is_some() {
-                before[at] = image[at];
+    for (chip, register, everywhere) in
+        [(4, 0xFF, [0x7A, 0x7B, 0x7C, 0xFF]), (5, 0x00, [0x00, 0x0D, 0x0E, 0x0F])]
+    {
+        for select in 0..=255 {
+            let mut image = r.bytes(if chip == 4 { 1280 } else { 768 });
+            for address in 0..=255 {
+                image[register] = select;
+                let bank = if everywhere.contains(&address) { 0 } else { select % 8 };
+                let at = 256 * usize::from(bank) + usize::from(address);
+                let held = image.get(at).copied();
+                let inputs = (chip, select, address);
+                let read = d.read(chip, &image, address);
+                hold(read == (0, held.unwrap_or(0)), "where a read lands", &inputs);
+                let mut before = image.clone();
+                d.write(chip, &mut image, address, r.byte());
+                if held.is_some() {
+                    before[at] = image[at];
+                }
+                hold(image == before, "where a write lands", &inputs);
             }
-            hold(image == before, "where a write lands", &inputs);
         }
     }
 }
 
 /// Power-on images with one bit flipped: identity, and a play that looks at it.
 fn every_flip<S: Subject>(d: &mut Driver<S>) {
-    for chip in 1..=4 {
+    for chip in 1..=5 {
         let image = power_on(d, chip);
+        let body: &[u8] = match chip {
+            1 => &[0, 1, 2, 3, 4, 5, 6, 7, 8],
+            4 => &[4, 1, 2, 3, 4, 5, 6, 7, 8],
+            5 => &[7, 1, 2, 3, 4, 5, 6, 7, 8, 9, 10, 11, 12, 13, 14, 15],
+            _ => &[4, 3, 2, 1, 0, 0, 0, 0, 0, 0, 0, 0, 0, 0],
+        };
         for bit in 0..8 * image.len() {
             let mut flipped = image.clone();
             flipped[bit / 8] ^= 1 << (bit % 8);
             let refusal = d.identity(chip, &flipped);
-            let body = [0u8; BODY];
-            let body: Vec<u8> = match chip {
-                1 => (0..9).collect(),
-                4 => [4, 1, 2, 3, 4, 5, 6, 7, 8].to_vec(),
-                _ => [4, 3, 2, 1].iter().chain(&body[4..]).copied().collect(),
-            };
-            let answer = d.play(Plan { chip, table: 1, body: &body }, &mut flipped, bit % 26);
+            let answer = d.play(Plan { chip, table: 1, body }, &mut flipped, bit % 27);
             let want = if chip == 3 { 4 } else { refusal };
             hold(answer.0 == want, "a play looks at the identity", &(chip, bit));
         }
