@@ -12,10 +12,10 @@ pointed chip table points temperatures critical duties =
     record { chip = chip; table = table; points = points; slope = record { temperatures = temperatures; critical = critical; duties = duties }; steps = noSteps }
 
 -- four points of eight, and seven of eight
-abbrev firstFour : List ℕ → List ℕ
+abbrev pub firstFour : List ℕ → List ℕ
 firstFour points = getD points 0 0 ∷ getD points 1 0 ∷ getD points 2 0 ∷ getD points 3 0 ∷ 0 ∷ 0 ∷ 0 ∷ 0 ∷ []
 
-abbrev firstSeven : List ℕ → List ℕ
+abbrev pub firstSeven : List ℕ → List ℕ
 firstSeven points = getD points 0 0 ∷ getD points 1 0 ∷ getD points 2 0 ∷ getD points 3 0 ∷ getD points 4 0 ∷ getD points 5 0 ∷ getD points 6 0 ∷ 0 ∷ []
 
 -- with four points, as chips 1 and 4 have them

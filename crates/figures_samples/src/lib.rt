@@ -266,11 +266,11 @@ pub fn show(plan: Plan) {
     let bounds = steps.bounds;
     figures_printing::bytes(&bounds);
     let counts = steps.counts;
-    count(countemperatures[0]);
-    count(countemperatures[1]);
-    count(countemperatures[2]);
-    count(countemperatures[3]);
-    count(countemperatures[4]);
+    count(counts[0]);
+    count(counts[1]);
+    count(counts[2]);
+    count(counts[3]);
+    count(counts[4]);
 }
 
 fn has_duties(chip: u8) -> bool {
