@@ -1,7 +1,7 @@
 /*
  * yerkhulbaz: register images, readings, the alarm watch, identity, cooling plans and scripts for
- * four hardware monitors. Chip 1 is the Nuvoton NCT7802Y, chip 2 the Fintek F75373S, chip 3 the
- * onsemi NCT80, chip 4 the Nuvoton NCT7904D.
+ * five hardware monitors. Chip 1 is the Nuvoton NCT7802Y, chip 2 the Fintek F75373S, chip 3 the
+ * onsemi NCT80, chip 4 the Nuvoton NCT7904D, chip 5 the Winbond W83793G.
  *
  * The library does no input or output, allocates nothing and keeps nothing between two calls: it
  * works on buffers that the caller lends for the time of the call. Link libclib.a (x86-64 Linux).
@@ -24,26 +24,33 @@
  * buffer of the same call: to play a table of an image onto the same image, copy the table's bytes
  * out first.
  *
- * AN IMAGE is the 256 register bytes of one chip, indexed by address (chip 1: bank 0), or the 1,280
- * of chip 4, five banks of 256 one after the other: bank b's address a is image[256 * b + a]. Any
- * other length is refused with 8. Functions work on the image only; the caller moves bytes between
- * the image and the chip. On chip 1 the caller first makes sure of bank 0 (bit 0 of 00h is zero),
- * which identity does not ask for: with bank 1 selected the same addresses are other registers.
+ * AN IMAGE is the 256 register bytes of one chip, indexed by address (chip 1: bank 0), the 1,280 of
+ * chip 4, five banks of 256 one after the other, or the 768 of chip 5, three banks: bank b's
+ * address a is image[256 * b + a]. Any other length is refused with 8. Functions work on the image
+ * only; the caller moves bytes between the image and the chip. On chip 1 the caller first makes
+ * sure of bank 0 (bit 0 of 00h is zero), which identity does not ask for: with bank 1 selected the
+ * same addresses are other registers.
  *
- * BANKS are chip 4's. yk_write and yk_read take an address, as the bus does, and land in the bank
- * that is selected: bits 2 to 0 of the bank select register, image[0xFF], whatever its other bits
- * hold. Four registers are seen in every bank and stand in bank 0's page only: 7Ah, 7Bh, 7Ch and
- * the bank select register FFh; in the pages of banks 1 to 4 nothing reaches the bytes of these
- * addresses. Codes 5 to 7 select a bank that is not there: the four registers answer, elsewhere a
- * write changes nothing and a read gives 0. A bank is selected by a write, as bank 3 by
- * yk_write(4, image, YK_IMAGE_CHIP_4, 0xFF, 3). All other calls that take an image find each
- * register in its own bank, whichever is selected. On a bus the caller must select bank 0 before
- * 0Dh to 0Fh are read; README.md has what it takes to confirm a chip.
+ * BANKS are those of chips 4 and 5. yk_write and yk_read take an address, as the bus does, and land
+ * in the bank that is selected: bits 2 to 0 of the bank select register, whatever its other bits
+ * hold. It is image[0xFF] of chip 4 and image[0x00] of chip 5. Four registers are seen in every
+ * bank and stand in bank 0's page only: of chip 4 7Ah, 7Bh, 7Ch and FFh, of chip 5 00h, 0Dh, 0Eh
+ * and 0Fh; in the pages of the other banks nothing reaches the bytes of these addresses. Codes 5 to
+ * 7 of chip 4 and 3 to 7 of chip 5 select a bank that is not there: the four registers answer,
+ * elsewhere a write changes nothing and a read gives 0. A bank is selected by a write, as bank 3 of
+ * chip 4 by yk_write(4, image, YK_IMAGE_CHIP_4, 0xFF, 3). All other calls that take an image find
+ * each register in its own bank, whichever is selected. On a bus the caller must select bank 0
+ * before 0Dh to 0Fh of chip 4 are read; README.md has what it takes to confirm a chip.
+ *
+ * THE VENDOR BYTE OF CHIP 5, image[0x0D], is the high one, 5Ch, whatever bit 7 of 00h holds. On a
+ * bus 0Dh shows it only while that bit is on; while it is off, as a script leaves it, 0Dh shows the
+ * low one, A3h. Who fills an image from the bus stores 5Ch there where 0Dh shows A3h while the bit
+ * is off, or turns the bit on before reading.
  *
  * A FAN TABLE works only while the chip is in its curve mode. The mode bits are the caller's: no
  * plan and no script has them.
  *
- * A PLAN is a chip, a fan table and a body, the table's bytes in register order:
+ * A PLAN is a chip, a fan table and a body, the table's bytes in the order of a record:
  *   chip 1, tables 1 to 3, 9 bytes:   T1 T2 T3 T4 critical FL1 FL2 FL3 FL4
  *       temperatures are signed degrees, duties 0 to 255; in the image from 80h, 90h, A0h
  *   chip 2, tables 1 and 2, 14 bytes: B1 B2 B3 B4 then C1 to C5, high byte first
@@ -53,11 +60,27 @@
  *       temperatures are signed degrees, duties 0 to 255; critical leads, as its register does; in
  *       the image table n from 1 to 4 has it at 320h + n - 1, T1 to P4 from 330h + 8 (n - 1) on,
  *       table n from 5 to 10 at 410h + n - 5, T1 to P4 from 430h + 8 (n - 5) on
- * A shorter body is refused with 5; bytes past these are ignored, as those behind a record are.
- * A plan is in order when
- *   chips 1 and 4: T1 < T2 < T3 < T4, T4 at most critical (else 6); duties never fall (else 7)
+ *   chip 5, tables 1 to 6, 16 bytes:  7 T1 to T7 critical FL1 to FL7
+ *       the first byte is the number of points, which is always 7 (else 16); temperatures are
+ *       degrees 0 to 127, duties 0 to 63; tables 1 to 4 are those of TD1 to TD4, 5 and 6 of TR1 and
+ *       TR2; in the image table n has T1 to T7 from 220h + 10h n on, FL1 to FL7 from 228h + 10h n
+ *       on, and critical at C5h, one register for all six
+ * A shorter body is refused with 5, after 16 where it has its number of points; bytes past these
+ * are ignored, as those behind a record are. A plan is in order when
+ *   chips 1, 4 and 5: each T is above the one before it, the last at most critical (else 6); duties
+ *       never fall (else 7); of chip 5 no temperature is above 127 (else 6) and no duty above 63
+ *       (else 7), since their registers have 7 and 6 bits
  *   chip 2: B1 > B2 > B3 > B4 (else 6); C1 to C5 never fall (else 7).
- * More duty is faster; a smaller count is faster, 0000h is full speed and FFFFh is off.
+ * More duty is faster; a smaller count is faster, 0000h is full speed and FFFFh is off. The
+ * greatest duty is 255, of chip 5 63.
+ *
+ * CHIP 5 HAS ONE CRITICAL TEMPERATURE. It is C5h of bank 0, 'All fan full speed temperature', and
+ * part of each of the six tables: the script of one table moves the critical temperature of the
+ * other five. What yk_script and yk_play promise is of the plan's own table. Another table asks
+ * what its own points say below the new critical temperature, and full speed from there on: where
+ * the new one is higher than the old, it asks for less than before between the two. So give all
+ * plans of one chip 5 the same critical temperature; if they differ, the last one played decides it
+ * for all.
  */
 #ifndef YERKHULBAZ_H
 #define YERKHULBAZ_H
@@ -69,17 +92,18 @@
 extern "C" {
 #endif
 
-/* Refusals: the low byte of an answer. */
+/* Refusals: the low byte of an answer. They stand here in the order of the checks. */
 enum {
     YK_ACCEPTED = 0,
     YK_REFUSED_HEADER = 1,       /* a plan record has fewer than 4 bytes left */
-    YK_REFUSED_MARK = 2,         /* its mark is not 43h 50h */
-    YK_REFUSED_CHIP = 3,         /* the chip number is not 1, 2, 3 or 4 */
+    YK_REFUSED_MARK = 2,         /* its mark is neither 43h 50h nor 43h 51h */
+    YK_REFUSED_CHIP = 3,         /* the chip number is not 1 to 5 */
     YK_REFUSED_TABLE = 4,        /* the chip has no such fan table */
+    YK_REFUSED_FORM = 16,        /* the mark or the point count doesn't go with the chip */
     YK_REFUSED_BODY = 5,         /* the body of a record or plan is cut short */
-    YK_REFUSED_TEMPERATURES = 6, /* temperatures of the plan are out of order */
-    YK_REFUSED_SPEEDS = 7,       /* duties or counts of the plan are out of order */
-    YK_REFUSED_IMAGE = 8,        /* a register image is not 256 bytes long (chip 4: 1,280) */
+    YK_REFUSED_TEMPERATURES = 6, /* temperatures of the plan are out of order, or don't fit */
+    YK_REFUSED_SPEEDS = 7,       /* duties or counts of the plan are out of order, or don't fit */
+    YK_REFUSED_IMAGE = 8,        /* an image is not 256 bytes long (chip 4: 1,280; chip 5: 768) */
     YK_REFUSED_OUTPUT = 9,       /* the output buffer is shorter than the result */
     YK_REFUSED_IDENTITY = 10,    /* identity is not confirmed (for chip 3 always) */
     YK_REFUSED_WIDTH = 11,       /* the temperature width is not 8, 9, 11 or 12 */
@@ -90,17 +114,19 @@ enum {
 enum { YK_DEFAULT = 0, YK_ONE_TIME = 1, YK_COMPARATOR = 2 };
 
 /* Chips. */
-enum { YK_NCT7802Y = 1, YK_F75373S = 2, YK_NCT80 = 3, YK_NCT7904D = 4 };
+enum { YK_NCT7802Y = 1, YK_F75373S = 2, YK_NCT80 = 3, YK_NCT7904D = 4, YK_W83793G = 5 };
 
 /* Sizes in bytes. A buffer of the size named MAX is never refused with 9. */
 enum {
     YK_IMAGE = 256,        /* chips 1, 2 and 3 */
     YK_IMAGE_CHIP_4 = 1280,
+    YK_IMAGE_CHIP_5 = 768,
     YK_BODY_CHIP_1 = 9,
     YK_BODY_CHIP_2 = 14,
     YK_BODY_CHIP_4 = 9,
-    YK_RECORD_MAX = 18,    /* yk_write_record: 13 for chips 1 and 4, 18 for chip 2 */
-    YK_SCRIPT_MAX = 48,    /* yk_script: 26 for chip 1, 48 for chip 2, 28 for chip 4 */
+    YK_BODY_CHIP_5 = 16,   /* the number of points with it */
+    YK_RECORD_MAX = 20,    /* yk_write_record: 13, 18, 13 and 20 for chips 1, 2, 4 and 5 */
+    YK_SCRIPT_MAX = 50,    /* yk_script: 26, 48, 28 and 50 for chips 1, 2, 4 and 5 */
     YK_INPUT_MAX = 4096,   /* yk_translate: a longer input is `input too long` */
     YK_TEXT_MAX = 40979    /* yk_translate: no input has a longer text */
 };
@@ -131,7 +157,7 @@ static inline uint8_t yk_bytes_low(uint64_t answer) {
     return (uint8_t)(yk_value(answer) & 0xFFu);
 }
 
-/* An accepted yk_read_record: the record's length in bytes (13 or 18), its chip, its table. */
+/* An accepted yk_read_record: the record's length in bytes (13, 18 or 20), its chip, its table. */
 static inline size_t yk_record_used(uint64_t answer) {
     return (size_t)(yk_value(answer) & 0xFFu);
 }
@@ -165,29 +191,32 @@ static inline uint8_t yk_facts(uint64_t answer) {
  * are cleared where byte has a 1, the other bits keep. A register that can't be written keeps
  * its byte, and the call is accepted all the same.
  * Refusals: 3, 8. Value: 0. Afterwards: only the byte at which the write lands may have changed:
- * image[address], or of chip 4 that address in the bank selected before the call (see BANKS).
+ * image[address], or of chips 4 and 5 that address in the bank selected before the call (see
+ * BANKS).
  */
 uint64_t yk_write(uint8_t chip, uint8_t *image, size_t image_length, uint8_t address, uint8_t byte);
 
 /*
- * Reads one byte: image[address], or of chip 4 that address in the bank selected (see BANKS).
- * Nothing changes, nothing is cleared by reading.
+ * Reads one byte: image[address], or of chips 4 and 5 that address in the bank selected (see
+ * BANKS). Nothing changes, nothing is cleared by reading.
  * Refusals: 3, 8. Value: the byte, (uint8_t)yk_value(answer).
  */
 uint64_t yk_read(uint8_t chip, const uint8_t *image, size_t image_length, uint8_t address);
 
 /*
- * Fills the image with the chip's power-on bytes; of chip 4 all banks, and bank 0 is selected.
- * Refusals: 3, 8. Value: 0. Afterwards: all 256 bytes, or 1,280, are those of power-on.
+ * Fills the image with the chip's power-on bytes; of chips 4 and 5 all banks, and bank 0 is
+ * selected.
+ * Refusals: 3, 8. Value: 0. Afterwards: all bytes of the image are those of power-on.
  */
 uint64_t yk_reset(uint8_t chip, uint8_t *image, size_t image_length);
 
 /*
- * Whether the image is that of the chip, by its identity registers. Chip 1: FDh is 50h, FEh is
- * C3h, the upper four bits of FFh are 2, bits 4 to 0 of 05h and bits 5 to 0 of 08h are zero.
- * Chip 2: 5Ah, 5Bh, 5Dh, 5Eh are 02h, 04h, 19h, 34h. Chip 3 is never confirmed. Chip 4: 0Dh and 7Ah
- * are 50h, 0Eh and 7Bh are C5h, the upper four bits of 0Fh and 7Ch are 5, each in bank 0's page,
- * whichever bank is selected.
+ * Whether the image is that of the chip, by its identity registers. Chip 1: FDh is 50h, FEh is C3h,
+ * the upper four bits of FFh are 2, bits 4 to 0 of 05h and bits 5 to 0 of 08h are zero. Chip 2:
+ * 5Ah, 5Bh, 5Dh, 5Eh are 02h, 04h, 19h, 34h. Chip 3 is never confirmed. Chip 4: 0Dh and 7Ah are
+ * 50h, 0Eh and 7Bh are C5h, the upper four bits of 0Fh and 7Ch are 5. Chip 5: 0Dh is 5Ch, 0Eh is
+ * 7Bh, 0Fh is 11h or 12h; whatever bit 7 of 00h holds (see THE VENDOR BYTE OF CHIP 5). Of both each
+ * stands in bank 0's page, whichever bank is selected.
  * Refusals: 3, 8, 10. Value: 0; accepted means confirmed.
  */
 uint64_t yk_identity(uint8_t chip, const uint8_t *image, size_t image_length);
@@ -275,17 +304,19 @@ uint64_t yk_acknowledge(uint8_t behaviour, uint8_t facts);
 /* ---- Plan records */
 
 /*
- * Reads the plan record that begins at bytes[0]: 43h 50h, chip, table, body. Bytes after the
- * record are not looked at; add yk_record_used(answer) to come to the next record.
- * Refusals: 1, 2, 3, 4, 5, 6, 7. Value: used + 256 * chip + 65536 * table;
+ * Reads the plan record that begins at bytes[0]: a mark, chip, table, body. The mark is 43h 51h for
+ * chip 5 and 43h 50h for the others; one that doesn't go with the chip is refused with 16, and then
+ * a number of points that is there and isn't 7. Bytes after the record are not looked at; add
+ * yk_record_used(answer) to come to the next record.
+ * Refusals: 1, 2, 3, 4, 16, 5, 6, 7. Value: used + 256 * chip + 65536 * table;
  * yk_record_used(answer), yk_record_chip(answer), yk_record_table(answer). The plan's body stands
- * in bytes[4] to bytes[used - 1], used - 4 bytes.
+ * in bytes[4] to bytes[used - 1], used - 4 bytes, of chip 5 with its number of points.
  */
 uint64_t yk_read_record(const uint8_t *bytes, size_t length);
 
 /*
- * Writes a plan's record.
- * Refusals: 3, 4, 5, 6, 7, 9. Value: the length, 13 or 18. Afterwards: the record stands in
+ * Writes a plan's record, with the chip's mark.
+ * Refusals: 3, 4, 16, 5, 6, 7, 9. Value: the length, 13, 18 or 20. Afterwards: the record stands in
  * out[0] to out[length - 1]; the bytes of out past it are as they were.
  */
 uint64_t yk_write_record(uint8_t chip, uint8_t table, const uint8_t *body, size_t body_length,
@@ -294,17 +325,19 @@ uint64_t yk_write_record(uint8_t chip, uint8_t table, const uint8_t *body, size_
 /* ---- What is asked of a fan */
 
 /*
- * The speed that a plan asks for at temperature t, in order or not: the duty (0 to 255) for chips 1
- * and 4, the count (0 to 65,535) for chip 2. t is one byte, signed for chips 1 and 4 (pass
- * (uint8_t)degrees) and unsigned for chip 2.
- * Refusals: 3, 4, 5. Value: the duty or count.
+ * The speed that a plan asks for at temperature t, in order or not: the duty for chips 1, 4 and 5,
+ * the count (0 to 65,535) for chip 2. From critical on it is the greatest duty, 255 of chips 1 and
+ * 4, 63 of chip 5. t is one byte, signed for chips 1, 4 and 5 (pass (uint8_t)degrees) and unsigned
+ * for chip 2.
+ * Refusals: 3, 4, 16, 5. Value: the duty or count.
  */
 uint64_t yk_asked_of_plan(uint8_t chip, uint8_t table, const uint8_t *body, size_t body_length,
                           uint8_t t);
 
 /*
- * The same of the table's bytes that stand in an image, of chip 4 in the table's own bank,
- * whichever is selected. The chip's identity is not looked at.
+ * The same of the table's bytes that stand in an image, of chips 4 and 5 in the registers' own
+ * banks, whichever is selected; bits that a register doesn't take count as zero. The chip's
+ * identity is not looked at.
  * Refusals: 3, 4, 8. Value: the duty or count.
  */
 uint64_t yk_asked_of_image(uint8_t chip, uint8_t table, const uint8_t *image, size_t image_length,
@@ -313,31 +346,35 @@ uint64_t yk_asked_of_image(uint8_t chip, uint8_t table, const uint8_t *image, si
 /* ---- Scripts */
 
 /*
- * Writes a plan's script: pairs of address and byte, to be written to the chip in this order.
- * First every duty goes to FFh (chips 1 and 4) or every count byte to 00h (chip 2), then the
- * temperatures are written, critical last, then the speeds as planned. So a table that is loaded in
- * part never asks for less than the slower of the old table and the plan. Of chip 4 the select of
- * the table's bank comes before all of these, FFh and 3 or 4: whichever bank was selected, the
- * writes land in the table's, and the script leaves that bank selected.
- * Refusals: 3, 4, 5, 6, 7, 9. Value: the number of writes, 13 (chip 1), 24 (chip 2) or 14 (chip 4).
- * Afterwards: write k (from 0) is out[2 * k], out[2 * k + 1]; the bytes of out past the script are
- * as they were.
+ * Writes a plan's script: pairs of address and byte, to be written to the chip in this order. First
+ * every duty goes to FFh (chips 1 and 4) or 3Fh (chip 5) or every count byte to 00h (chip 2), then
+ * the temperatures are written, critical last, then the speeds as planned. So a table that is
+ * loaded in part never asks for less than the slower of the old table and the plan. Of chip 4 the
+ * select of the table's bank comes before all of these, FFh and 3 or 4; of chip 5 that of bank 2,
+ * 00h and 2, before them, that of bank 0 before critical, that of bank 2 again behind it. So
+ * whichever bank was selected, each write lands in its register's; the script leaves its last bank
+ * selected, of chip 5 bank 2, with bit 7 of 00h off. The script of chip 5 moves the critical
+ * temperature of all six tables.
+ * Refusals: 3, 4, 16, 5, 6, 7, 9. Value: the number of writes, 13 (chip 1), 24 (chip 2), 14 (chip
+ * 4) or 25 (chip 5). Afterwards: write k (from 0) is out[2 * k], out[2 * k + 1]; the bytes of out
+ * past the script are as they were.
  */
 uint64_t yk_script(uint8_t chip, uint8_t table, const uint8_t *body, size_t body_length,
                    uint8_t *out, size_t out_length);
 
 /*
- * Plays the first count writes of a plan's script on an image, as yk_write would make them; a
- * count above the script's length means all. Identity is confirmed once, before the first write.
- * Every play begins with the script's first write: after a cut, play the whole script again. That
- * may be cut too, any number of times. If the first play was not refused, each one after it is of
- * the same plan and on the image that the one before left, and nothing else writes to that image,
- * then none of them is refused, at every stop the image asks for nothing slower than the slower of
- * the very first table and the plan, and a play that makes all writes ends at the plan. Of chip 4
- * the select counts as a write.
- * Refusals: 3, 4, 5, 6, 7, 8, 10. Value: the number of writes made. Afterwards: outside of the
- * plan's table and, of chip 4, the bank select register the image is as it was; after a whole
- * script the table holds the plan's body.
+ * Plays the first count writes of a plan's script on an image, as yk_write would make them; a count
+ * above the script's length means all. Identity is confirmed once, before the first write. Every
+ * play begins with the script's first write: after a cut, play the whole script again. That may be
+ * cut too, any number of times. If the first play was not refused, each one after it is of the same
+ * plan and on the image that the one before left, and nothing else writes to that image, then none
+ * of them is refused, at every stop the image asks for nothing slower than the slower of the very
+ * first table and the plan, and a play that makes all writes ends at the plan. Of chips 4 and 5 a
+ * select counts as a write. All of this is of the plan's own table; of chip 5 critical, C5h, is
+ * part of it, so that a play moves the critical temperature of the other five tables too.
+ * Refusals: 3, 4, 16, 5, 6, 7, 8, 10. Value: the number of writes made. Afterwards: outside of the
+ * plan's table and, of chips 4 and 5, the bank select register the image is as it was; after a
+ * whole script the table holds the plan's body, of chip 5 in the bits that its registers take.
  */
 uint64_t yk_play(uint8_t chip, uint8_t table, const uint8_t *body, size_t body_length,
                  uint8_t *image, size_t image_length, size_t count);

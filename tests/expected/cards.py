@@ -2,10 +2,11 @@
 import os
 
 HERE = os.path.dirname(os.path.abspath(__file__))
-NAMES = {1: "nct7802y", 2: "f75373s", 3: "nct80", 4: "nct7904d"}
+NAMES = {1: "nct7802y", 2: "f75373s", 3: "nct80", 4: "nct7904d", 5: "w83793g"}
 
-# "An image holds all banks, one after the other": five of chip 4, bank b's address a at 256 b + a.
-SIZES = {1: 256, 2: 256, 3: 256, 4: 5 * 256}
+# How many banks an image has. "An image holds all banks, one after the other": bank b's address a at 256 b + a.
+BANKS = {1: 1, 2: 1, 3: 1, 4: 5, 5: 3}
+SIZES = {chip: 256 * banks for chip, banks in BANKS.items()}
 
 # The two rows that the second reading had otherwise, as settled in docs/CARDS.md: writable, clears, power-on. They override the reading.
 SETTLED = {(1, 0x6D): (0x0F, 0x00, 0x00), (2, 0x32): (0xFF, 0x00, 0x00)}
@@ -24,10 +25,14 @@ def card(chip):
 
 CARDS = {chip: card(chip) for chip in NAMES}
 
-# Chip 4's bank select register, and the registers that are seen in every bank: they stand "in bank 0's page only", and nothing reaches their other bytes.
-SELECT = 0xFF
-EVERYWHERE = (0x7A, 0x7B, 0x7C, 0xFF)
-assert all(CARDS[4][256 * bank + address] == (0, 0, 0) for bank in (1, 2, 3, 4) for address in EVERYWHERE)
+# The bank select register of a chip with banks, and the registers that are seen in every bank: they stand "in bank 0's page only", and nothing reaches
+# their other bytes. Of chip 5, source document 001, 8.1.1: "in all three register banks".
+SELECT = {4: 0xFF, 5: 0x00}
+EVERYWHERE = {4: (0x7A, 0x7B, 0x7C, 0xFF), 5: (0x00, 0x0D, 0x0E, 0x0F)}
+assert all(CARDS[chip][256 * bank + at] == (0, 0, 0) for chip in EVERYWHERE for bank in range(1, BANKS[chip]) for at in EVERYWHERE[chip])
+
+# The select registers: of chip 5 HBACS is writable beside the bank's bits, and on at power-on.
+assert CARDS[4][SELECT[4]] == (0x07, 0x00, 0x00) and CARDS[5][SELECT[5]] == (0x87, 0x00, 0x80)
 
 
 def reset(chip):
@@ -36,11 +41,11 @@ def reset(chip):
 
 
 def place(chip, image, address):
-    """The position that an address is: of chip 4 by the bank bits of its bank select register, and None in a bank that the sheet lacks."""
-    if chip != 4 or address in EVERYWHERE:
+    """The position that an address is: by bits 2 to 0 of the bank select register where there is one, and None in a bank that the sheet lacks."""
+    if chip not in SELECT or address in EVERYWHERE[chip]:
         return address
-    bank = image[SELECT] % 8
-    return 256 * bank + address if bank < 5 else None
+    bank = image[SELECT[chip]] % 8
+    return 256 * bank + address if bank < BANKS[chip] else None
 
 
 def read(chip, image, address):
@@ -65,14 +70,16 @@ def write(chip, image, address, byte):
     image[at] = bits
 
 
-# The bits that identity names, and what they hold, by position. Chip 4: "from its vendor, chip and device registers", both sets; the device is 5x.
+# The bits that identity names, and what they hold, by position; where there is a choice, one of these. Chip 4: "from its vendor, chip and device
+# registers", both sets; the device is 5x. Chip 5: "the vendor byte in the image is the high one", and "B Version is 11, C Version is 12".
 IDENTITY = {
-    1: {0x05: (0x1F, 0x00), 0x08: (0x3F, 0x00), 0xFD: (0xFF, 0x50), 0xFE: (0xFF, 0xC3), 0xFF: (0xF0, 0x20)},
-    2: {0x5A: (0xFF, 0x02), 0x5B: (0xFF, 0x04), 0x5D: (0xFF, 0x19), 0x5E: (0xFF, 0x34)},
-    4: {0x0D: (0xFF, 0x50), 0x0E: (0xFF, 0xC5), 0x0F: (0xF0, 0x50), 0x7A: (0xFF, 0x50), 0x7B: (0xFF, 0xC5), 0x7C: (0xF0, 0x50)},
+    1: {0x05: (0x1F, (0x00,)), 0x08: (0x3F, (0x00,)), 0xFD: (0xFF, (0x50,)), 0xFE: (0xFF, (0xC3,)), 0xFF: (0xF0, (0x20,))},
+    2: {0x5A: (0xFF, (0x02,)), 0x5B: (0xFF, (0x04,)), 0x5D: (0xFF, (0x19,)), 0x5E: (0xFF, (0x34,))},
+    4: {0x0D: (0xFF, (0x50,)), 0x0E: (0xFF, (0xC5,)), 0x0F: (0xF0, (0x50,)), 0x7A: (0xFF, (0x50,)), 0x7B: (0xFF, (0xC5,)), 0x7C: (0xF0, (0x50,))},
+    5: {0x0D: (0xFF, (0x5C,)), 0x0E: (0xFF, (0x7B,)), 0x0F: (0xFF, (0x11, 0x12))},
 }
 
 
 def confirmed(chip, image):
     """ "Confirmed means all of them"; in bank 0's page, whichever bank is selected. Chip 3 has no identity rule."""
-    return chip in IDENTITY and all(image[at] & bits == held for at, (bits, held) in IDENTITY[chip].items())
+    return chip in IDENTITY and all(image[at] & bits in held for at, (bits, held) in IDENTITY[chip].items())

@@ -1,8 +1,8 @@
 """Every row of the cards, and the calls on an image."""
-from cards import CARDS, IDENTITY, NAMES, SELECT, SIZES, confirmed, read, reset, write
+from cards import BANKS, CARDS, IDENTITY, NAMES, SELECT, SIZES, confirmed, place, read, reset, write
 
-CHIPS = (0, 1, 2, 3, 4, 5, 255)
-LENGTHS = (0, 255, 256, 257, 1279, 1280, 1281)
+CHIPS = (0, 1, 2, 3, 4, 5, 6, 255)
+LENGTHS = (0, 255, 256, 257, 767, 768, 769, 1279, 1280, 1281)
 
 
 def at_position(chip, position):
@@ -17,7 +17,7 @@ def rows():
 
 
 def image_answer(call, chip, length):
-    """The answer of a call on a buffer of that length, filled with 5Ah. Bank 2 of chip 4 is selected by it."""
+    """The answer of a call on a buffer of that length, filled with 5Ah. Bank 2 of chips 4 and 5 is selected by it."""
     if chip not in NAMES:
         return "refused 3 kept"
     if length != SIZES[chip]:
@@ -42,14 +42,19 @@ def image_calls():
 
 def stored():
     """A byte written to a register that holds 5Ah: bits 0 and 1 of 34h of chip 2 clear on one, 54h of chip 1 has six writable bits, 3Eh of chip 3 none.
-    5Ah selects bank 2 of chip 4, whose 00h has four writable bits; FFh has three and 7Ah none."""
+    5Ah selects bank 2 of chips 4 and 5. There 00h of chip 4 has four writable bits; FFh has three and 7Ah none. 30h of chip 5 has seven there and 38h six;
+    00h has bit 7 and the bank's three, and 0Dh none."""
     held = {(2, 0x34, 0x00): 0x5A, (2, 0x34, 0x01): 0x5A, (2, 0x34, 0x02): 0x58, (2, 0x34, 0xFF): 0x58,
             (1, 0x54, 0x00): 0x40, (1, 0x54, 0xFF): 0x7F, (3, 0x3E, 0x00): 0x5A, (3, 0x3E, 0xFF): 0x5A,
             (4, 0x00, 0x00): 0x58, (4, 0x00, 0xFF): 0xDF, (4, 0x7A, 0x00): 0x5A, (4, 0x7A, 0xFF): 0x5A,
-            (4, 0xFF, 0x00): 0x58, (4, 0xFF, 0xFF): 0x5F}
+            (4, 0xFF, 0x00): 0x58, (4, 0xFF, 0xFF): 0x5F,
+            (5, 0x30, 0x00): 0x00, (5, 0x30, 0xFF): 0x7F, (5, 0x38, 0x00): 0x40, (5, 0x38, 0xFF): 0x7F,
+            (5, 0x0D, 0x00): 0x5A, (5, 0x0D, 0xFF): 0x5A, (5, 0x00, 0x00): 0x58, (5, 0x00, 0xFF): 0xDF}
+    in_bank_2 = ((4, 0x00), (5, 0x30), (5, 0x38))
     for (chip, address, byte), holds in held.items():
         image = [0x5A] * SIZES[chip]
-        at = address + (512 if (chip, address) == (4, 0x00) else 0)
+        at = address + (512 if (chip, address) in in_bank_2 else 0)
+        assert place(chip, image, address) == at
         write(chip, image, address, byte)
         assert image == [0x5A] * at + [holds] + [0x5A] * (SIZES[chip] - 1 - at)
         print("stored chip %d %02X write %02X byte %02X" % (chip, address, byte, holds))
@@ -60,35 +65,50 @@ def changes(old, new):
     return "".join(" %03X %02X" % (at, b) for at, (a, b) in enumerate(zip(old, new)) if a != b)
 
 
-# The request's example: what is written, and what is then read.
-EXAMPLE = (
-    ((0xFF, 0x83), {0xFF: 0x03, 0x20: 0x5A, 0x7A: 0x50}),
-    ((0x20, 0x55), {0x20: 0x55}),
-    ((0xFF, 0x06), {0x20: 0x00, 0x7B: 0xC5}),
-    ((0x20, 0x11), {}),
-    ((0xFF, 0x04), {0x10: 0x5A, 0x20: 0x53}),
-)
+# From the power-on image on: what is written, and what is then read. That of chip 4 is the request's example. Of chip 5 HBACS goes off with the first
+# select, which "the vendor byte" doesn't follow; T1 of table 1 takes seven bits; code 5 has the shared registers alone; bits 6 to 3 stay zero; and 50h
+# is the critical temperature, in bank 0.
+EXAMPLES = {
+    4: (
+        ((0xFF, 0x83), {0xFF: 0x03, 0x20: 0x5A, 0x7A: 0x50}),
+        ((0x20, 0x55), {0x20: 0x55}),
+        ((0xFF, 0x06), {0x20: 0x00, 0x7B: 0xC5}),
+        ((0x20, 0x11), {}),
+        ((0xFF, 0x04), {0x10: 0x5A, 0x20: 0x53}),
+    ),
+    5: (
+        ((0x00, 0x02), {0x00: 0x02, 0x30: 0x1E, 0xC5: 0x00, 0x0D: 0x5C}),
+        ((0x30, 0xA8), {0x30: 0x28}),
+        ((0x00, 0x05), {0x30: 0x00, 0xC5: 0x00, 0x0E: 0x7B}),
+        ((0x30, 0x11), {}),
+        ((0x00, 0xF8), {0x00: 0x80, 0x0D: 0x5C, 0x0F: 0x11, 0x30: 0x00, 0xC5: 0x50}),
+    ),
+}
+
+# What the select register holds, what is written there, and what it holds then: the bits that aren't writable stay. What is seen in every bank and read
+# only is so in the bank that this selects.
+KEPT = {4: ((0x2C, 0x03, 0x2B), (0x7A, 0x7B, 0x7C)), 5: ((0x7A, 0x81, 0xF9), (0x0D, 0x0E, 0x0F))}
 
 
-def bus_write(image, address, byte):
+def bus_write(chip, image, address, byte):
     old = list(image)
-    write(4, image, address, byte)
-    print("bus write %02X %02X changed%s" % (address, byte, changes(old, image)))
+    write(chip, image, address, byte)
+    print("bus chip %d write %02X %02X changed%s" % (chip, address, byte, changes(old, image)))
 
 
-def bus():
-    """Of chip 4, with banks. Then 03h written where the select register holds 2Ch, and read-only registers in bank 3, which 2Bh selects."""
-    image = reset(4)
-    for (address, byte), then in EXAMPLE:
-        bus_write(image, address, byte)
+def bus(chip):
+    image = reset(chip)
+    for (address, byte), then in EXAMPLES[chip]:
+        bus_write(chip, image, address, byte)
         for at, holds in then.items():
-            assert read(4, image, at) == holds
-            print("bus read %02X byte %02X" % (at, holds))
-    image[SELECT] = 0x2C
-    bus_write(image, 0xFF, 0x03)
-    assert image[SELECT] == 0x2B
-    for address in (0x7A, 0x7B, 0x7C):
-        bus_write(image, address, 0xFF)
+            assert read(chip, image, at) == holds
+            print("bus chip %d read %02X byte %02X" % (chip, at, holds))
+    (before, byte, after), read_only = KEPT[chip]
+    image[SELECT[chip]] = before
+    bus_write(chip, image, SELECT[chip], byte)
+    assert image[SELECT[chip]] == after
+    for address in read_only:
+        bus_write(chip, image, address, 0xFF)
 
 
 def digest(data):
@@ -98,19 +118,27 @@ def digest(data):
     return h
 
 
-def banks():
-    """Every address with every bank code, whatever the other bits of the select register hold: read, and then A5h written to all below FFh, of an image
-    whose bytes are their positions modulo 251."""
+def banks(chip):
+    """Every address with every bank code, whatever the other bits of the select register hold: read, and then A5h written to all but the select register,
+    of an image whose bytes are their positions modulo 251."""
     for code in range(8):
         for select in (code, 0xA8 + code):
-            image = [at % 251 for at in range(1280)]
-            image[SELECT] = select
-            reads = digest(read(4, image, address) for address in range(256))
+            image = [at % 251 for at in range(SIZES[chip])]
+            image[SELECT[chip]] = select
+            reads = digest(read(chip, image, address) for address in range(256))
             new = list(image)
-            for address in range(255):
-                write(4, new, address, 0xA5)
-            assert code < 5 or new == image
-            print("bank select %02X reads %04X writes %04X" % (select, reads, digest(new)))
+            for address in range(256):
+                if address != SELECT[chip]:
+                    write(chip, new, address, 0xA5)
+            assert code < BANKS[chip] or new == image
+            print("bank chip %d select %02X reads %04X writes %04X" % (chip, select, reads, digest(new)))
+
+
+def on_the_bus():
+    """Of the chips that have banks."""
+    for chip in SELECT:
+        bus(chip)
+        banks(chip)
 
 
 def seen(chip, image):
@@ -126,8 +154,9 @@ def seen(chip, image):
 
 
 def identity_bits():
-    """Identity sees the bits that the paper names: 8 + 8 + 4 + 5 + 6 of chip 1, 8 + 8 + 8 + 8 of chip 2, twice 8 + 8 + 4 of chip 4."""
-    for chip, bits in ((1, 31), (2, 32), (4, 40)):
+    """Identity sees the bits that the paper names: 8 + 8 + 4 + 5 + 6 of chip 1, 8 + 8 + 8 + 8 of chip 2, twice 8 + 8 + 4 of chip 4, 8 + 8 + 8 of chip 5:
+    no one bit makes 12h of 11h."""
+    for chip, bits in ((1, 31), (2, 32), (4, 40), (5, 24)):
         assert confirmed(chip, reset(chip))
         found = seen(chip, reset(chip))
         assert found == {at: mask for at, (mask, _) in IDENTITY[chip].items()} and sum(bin(mask).count("1") for mask in found.values()) == bits
@@ -136,12 +165,29 @@ def identity_bits():
 
 
 def identity_in_banks():
-    """Of chip 4 in bank 0's page whichever bank is selected: the same bits. In pages 1 to 4 the same addresses hold something else."""
-    for select in range(8):
-        image = reset(4)
-        image[SELECT] = select
-        assert confirmed(4, image) and seen(4, image) == seen(4, reset(4))
-        print("identity chip 4 select %02X confirmed bits 40" % select)
+    """In bank 0's page whichever bank is selected: the same bits. In the other pages the same addresses hold something else. Of chip 5 whatever bit 7 of
+    the select register holds, too."""
+    for chip, bits, others in ((4, 40, (0x00,)), (5, 24, (0x00, 0x80))):
+        for code in range(8):
+            for other in others:
+                image = reset(chip)
+                image[SELECT[chip]] = other + code
+                assert confirmed(chip, image) and seen(chip, image) == seen(chip, reset(chip))
+                print("identity chip %d select %02X confirmed bits %d" % (chip, other + code, bits))
+
+
+def identity_takes():
+    """Of chip 5 each byte with which a register of its identity is confirmed, of all 256, with bit 7 of the select register on and off."""
+    for select in (0x80, 0x00):
+        for at, (_, held) in IDENTITY[5].items():
+            taken = []
+            for byte in range(256):
+                image = reset(5)
+                image[SELECT[5]], image[at] = select, byte
+                if confirmed(5, image):
+                    taken.append(byte)
+            assert tuple(taken) == held
+            print("identity chip 5 select %02X at %03X takes%s" % (select, at, "".join(" %02X" % byte for byte in taken)))
 
 
 def no_identity():

@@ -1,5 +1,6 @@
 // Which bits identity sees: each bit of a power-on image is turned over by itself. `identity chip C power-on confirmed bits N`, and by position
-// `identity chip C sees PPP MM`; of chip 4 with each bank code selected, `identity chip 4 select SS confirmed bits N`.
+// `identity chip C sees PPP MM`; of chips 4 and 5 with each bank code selected, `identity chip C select SS confirmed bits N`; of chip 5 each byte with
+// which a register is confirmed, `identity chip 5 select SS at PPP takes BB`.
 use crate::image_calls;
 use refusal::Outcome;
 
@@ -72,14 +73,81 @@ fn at_power_on(chip: u8, image: &mut [u8]) {
     figures_printing::line_end();
 }
 
-fn selected(select: u8) {
+fn selected(chip: u8, image: &mut [u8], select: u8) {
+    begin(chip);
+    figures_printing::text(b" select ");
+    figures_printing::byte(select);
+    confirmed(chip, image);
+}
+
+fn selected_4(select: u8) {
     let mut image = [0u8; 1280];
     images::reset(4, &mut image);
     image[0xFF] = select;
-    begin(4);
+    selected(4, &mut image, select);
+}
+
+fn selected_5(select: u8) {
+    let mut image = [0u8; 768];
+    images::reset(5, &mut image);
+    image[0x00] = select;
+    selected(5, &mut image, select);
+}
+
+fn codes_of_4() {
+    for code in 0..8u8 {
+        selected_4(code);
+    }
+}
+
+// With bit 7 of the select register off and on.
+fn codes_of_5() {
+    for code in 0..8u8 {
+        selected_5(code);
+        selected_5(code | 0x80);
+    }
+}
+
+fn put(image: &mut [u8], at: usize, byte: u8) {
+    if at < image.len() {
+        image[at] = byte;
+    }
+}
+
+fn tried(chip: u8, image: &mut [u8], at: usize, byte: u8) {
+    put(image, at, byte);
+    if let Outcome::Accepted = identities::confirm(chip, image) {
+        figures_printing::space();
+        figures_printing::byte(byte);
+    }
+}
+
+// Each of the 256 bytes.
+fn try_all(chip: u8, image: &mut [u8], at: usize) {
+    for byte in 0..=255u8 {
+        tried(chip, image, at, byte);
+    }
+}
+
+fn takes(select: u8, at: usize) {
+    let mut image = [0u8; 768];
+    images::reset(5, &mut image);
+    image[0x00] = select;
+    begin(5);
     figures_printing::text(b" select ");
     figures_printing::byte(select);
-    confirmed(4, &mut image);
+    figures_printing::text(b" at ");
+    figures_printing::position(at);
+    figures_printing::text(b" takes");
+    try_all(5, &mut image, at);
+    figures_printing::line_end();
+}
+
+// The vendor, chip and version registers.
+fn all_taken(select: u8) {
+    takes(select, 0x0D);
+    takes(select, 0x0E);
+    takes(select, 0x0F);
 }
 
 // Chip 3 has no identity rule: its own image, manufacturer byte and all, is refused.
@@ -96,15 +164,13 @@ pub fn print_all() {
     let mut image = [0u8; 256];
     at_power_on(1, &mut image);
     at_power_on(2, &mut image);
-    let mut banked = [0u8; 1280];
-    at_power_on(4, &mut banked);
-    selected(0);
-    selected(1);
-    selected(2);
-    selected(3);
-    selected(4);
-    selected(5);
-    selected(6);
-    selected(7);
+    let mut of_4 = [0u8; 1280];
+    at_power_on(4, &mut of_4);
+    let mut of_5 = [0u8; 768];
+    at_power_on(5, &mut of_5);
+    codes_of_4();
+    codes_of_5();
+    all_taken(0x80);
+    all_taken(0x00);
     without();
 }

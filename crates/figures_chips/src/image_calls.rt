@@ -1,4 +1,4 @@
-// Each call on an image, at known and unknown chip numbers and at lengths about 256 and 1,280. A lent buffer is filled with 5Ah beforehand, and a
+// Each call on an image, at known and unknown chip numbers and at lengths about 256, 768 and 1,280. A lent buffer is filled with 5Ah beforehand, and a
 // refusal says whether it still is: `CALL chip C length L ..`.
 use figures_printing::FILL;
 use images::ByteRead;
@@ -96,6 +96,9 @@ fn lengths(call: u8, chip: u8) {
     line(call, chip, 255);
     line(call, chip, 256);
     line(call, chip, 257);
+    line(call, chip, 767);
+    line(call, chip, 768);
+    line(call, chip, 769);
     line(call, chip, 1279);
     line(call, chip, 1280);
     line(call, chip, 1281);
@@ -108,6 +111,7 @@ fn chips(call: u8) {
     lengths(call, 3);
     lengths(call, 4);
     lengths(call, 5);
+    lengths(call, 6);
     lengths(call, 255);
 }
 
@@ -135,13 +139,18 @@ fn stored(chip: u8, address: u8, byte: u8) {
     stored_in(&mut image, chip, address, byte);
 }
 
-fn stored_in_bank_2(address: u8, byte: u8) {
+fn stored_of_4(address: u8, byte: u8) {
     let mut image = [FILL; 1280];
     stored_in(&mut image, 4, address, byte);
 }
 
-// Bits 0 and 1 of 34h of chip 2 clear on one, 54h of chip 1 has six writable bits, 3Eh of chip 3 none. 5Ah selects bank 2 of chip 4, whose 00h has
-// four writable bits; FFh has three and 7Ah none.
+fn stored_of_5(address: u8, byte: u8) {
+    let mut image = [FILL; 768];
+    stored_in(&mut image, 5, address, byte);
+}
+
+// Bits 0 and 1 of 34h of chip 2 clear on one, 54h of chip 1 has six writable bits, 3Eh of chip 3 none. 5Ah selects bank 2 of chips 4 and 5. There 00h
+// of chip 4 has four writable bits; FFh has three and 7Ah none. 30h of chip 5 has seven there and 38h six; 00h has four and 0Dh none.
 pub fn print_stored() {
     stored(2, 0x34, 0x00);
     stored(2, 0x34, 0x01);
@@ -151,10 +160,18 @@ pub fn print_stored() {
     stored(1, 0x54, 0xFF);
     stored(3, 0x3E, 0x00);
     stored(3, 0x3E, 0xFF);
-    stored_in_bank_2(0x00, 0x00);
-    stored_in_bank_2(0x00, 0xFF);
-    stored_in_bank_2(0x7A, 0x00);
-    stored_in_bank_2(0x7A, 0xFF);
-    stored_in_bank_2(0xFF, 0x00);
-    stored_in_bank_2(0xFF, 0xFF);
+    stored_of_4(0x00, 0x00);
+    stored_of_4(0x00, 0xFF);
+    stored_of_4(0x7A, 0x00);
+    stored_of_4(0x7A, 0xFF);
+    stored_of_4(0xFF, 0x00);
+    stored_of_4(0xFF, 0xFF);
+    stored_of_5(0x30, 0x00);
+    stored_of_5(0x30, 0xFF);
+    stored_of_5(0x38, 0x00);
+    stored_of_5(0x38, 0xFF);
+    stored_of_5(0x0D, 0x00);
+    stored_of_5(0x0D, 0xFF);
+    stored_of_5(0x00, 0x00);
+    stored_of_5(0x00, 0xFF);
 }

@@ -42,4 +42,5 @@ pub fn print_all() {
     card(2);
     card(3);
     card(4);
+    card(5);
 }

@@ -1,11 +1,12 @@
 // Prints what curves ask, of plans and of images: `.. at T is S`. proofs/ has the starred figures, of readings, the watch and
 // curves, and where those layers agree.
 mod banked_tables;
+mod unmasked;
 
 use curves::Plan;
 use plans::Asked;
 
-fn end(chip: u8, t: u8, asked: Asked) {
+pub fn end(chip: u8, t: u8, asked: Asked) {
     figures_printing::text(b" at ");
     figures_samples::degrees(chip, t);
     figures_printing::text(b" is");
@@ -26,6 +27,15 @@ fn steps_at(t: u8) {
 fn banked_at(t: u8) {
     figures_printing::text(b"banked duty");
     end(4, t, plans::asked_of_plan(figures_samples::banked(10), t));
+}
+
+fn seven_at(t: u8) {
+    figures_printing::text(b"seven points duty");
+    end(
+        5,
+        t,
+        plans::asked_of_plan(figures_samples::counted(1, 7), t),
+    );
 }
 
 fn plan_at(plan: Plan, t: u8) {
@@ -55,11 +65,78 @@ fn figures() {
     steps_at(51);
 }
 
+// The request's figures of its plan of chip 5.
+fn seven_figures() {
+    seven_at(0x80);
+    seven_at(0xFF);
+    seven_at(0x00);
+    seven_at(0x1E);
+    seven_at(0x1F);
+    seven_at(0x21);
+    seven_at(0x2A);
+    seven_at(0x2F);
+    seven_at(0x35);
+    seven_at(0x3A);
+    seven_at(0x3C);
+    seven_at(0x4F);
+    seven_at(0x50);
+    seven_at(0x7F);
+}
+
+// Unordered, falling, and with critical among the points.
+fn unordered_seven() {
+    let unordered = figures_samples::seven(
+        2,
+        [50, 40, 60, 70, 80, 90, 95],
+        100,
+        [1, 2, 3, 4, 5, 6, 7],
+    );
+    plan_at(unordered, 45);
+    plan_at(unordered, 55);
+    let falling = figures_samples::seven(
+        3,
+        [0, 3, 60, 70, 80, 90, 95],
+        100,
+        [50, 25, 3, 4, 5, 6, 7],
+    );
+    plan_at(falling, 1);
+    plan_at(falling, 2);
+    let low = figures_samples::seven(
+        4,
+        [30, 35, 40, 45, 50, 55, 60],
+        40,
+        [8, 12, 16, 24, 32, 48, 56],
+    );
+    plan_at(low, 39);
+    plan_at(low, 40);
+}
+
+// With eight values, of which a curve has the first four or seven.
+fn filled(chip: u8, points: u8) -> Plan {
+    figures_samples::pointed(
+        chip,
+        1,
+        points,
+        [30, 35, 40, 45, 50, 55, 60, 70],
+        80,
+        [8, 12, 16, 24, 32, 48, 56, 60],
+    )
+}
+
+fn behind_the_points() {
+    plan_at(filled(5, 7), 65);
+    plan_at(filled(5, 7), 75);
+    plan_at(filled(1, 7), 48);
+    plan_at(filled(4, 8), 60);
+    plan_at(filled(5, 8), 65);
+}
+
 // From -128 to 127: the bytes with their top bit turned over are in order.
 fn whole_curve() {
     for k in 0..=255u8 {
         paper_at(k ^ 0x80);
         banked_at(k ^ 0x80);
+        seven_at(k ^ 0x80);
     }
 }
 
@@ -81,29 +158,22 @@ fn all_steps() {
     steps_at(0);
 }
 
-// A plan is asked in order or not: only its chip and its table are checked.
+// A plan is asked in order or not: only its chip, its table and its point count are checked.
 fn unordered() {
-    for k in 0..20u8 {
+    for k in 0..33u8 {
         plan_at(figures_samples::refused(k), 45);
     }
 }
 
-pub fn temperature(k: u8) -> u8 {
-    match k {
-        0 => 0x80,
-        1 => 0xFF,
-        2 => 0,
-        3 => 25,
-        4 => 26,
-        5 => 30,
-        6 => 31,
-        7 => 45,
-        8 => 51,
-        9 => 59,
-        10 => 60,
-        11 => 61,
-        12 => 90,
-        _ => 0x7F,
+const USUAL: [u8; 14] = [0x80, 0xFF, 0, 25, 26, 30, 31, 45, 51, 59, 60, 61, 90, 0x7F];
+
+// One between each two of chip 5's points.
+const OF_SEVEN: [u8; 14] = [0x80, 0xFF, 30, 33, 38, 43, 48, 53, 58, 60, 79, 80, 81, 0x7F];
+
+pub fn temperatures(chip: u8) -> [u8; 14] {
+    match chip {
+        5 => OF_SEVEN,
+        _ => USUAL,
     }
 }
 
@@ -115,8 +185,9 @@ fn image_at(chip: u8, table: u8, image: &[u8], t: u8) {
 }
 
 fn asked_of(chip: u8, table: u8, image: &[u8]) {
-    for k in 0..14u8 {
-        image_at(chip, table, image, temperature(k));
+    let at = temperatures(chip);
+    for k in 0..14 {
+        image_at(chip, table, image, at[k]);
     }
 }
 
@@ -132,11 +203,20 @@ fn power_on_banked(table: u8) {
     asked_of(4, table, &image);
 }
 
+fn power_on_seven(table: u8) {
+    let mut image = [0u8; 768];
+    images::reset(5, &mut image);
+    asked_of(5, table, &image);
+}
+
 // Of bytes that are all 5Ah, one too few for an image, as many as one has, and one too many.
 fn lengths(chip: u8, table: u8) {
     image_at(chip, table, &[figures_printing::FILL; 255], 91);
     image_at(chip, table, &[figures_printing::FILL; 256], 91);
     image_at(chip, table, &[figures_printing::FILL; 257], 91);
+    image_at(chip, table, &[figures_printing::FILL; 767], 91);
+    image_at(chip, table, &[figures_printing::FILL; 768], 91);
+    image_at(chip, table, &[figures_printing::FILL; 769], 91);
     image_at(chip, table, &[figures_printing::FILL; 1279], 91);
     image_at(chip, table, &[figures_printing::FILL; 1280], 91);
     image_at(chip, table, &[figures_printing::FILL; 1281], 91);
@@ -148,6 +228,8 @@ fn tables(chip: u8) {
     lengths(chip, 2);
     lengths(chip, 3);
     lengths(chip, 4);
+    lengths(chip, 6);
+    lengths(chip, 7);
     lengths(chip, 10);
     lengths(chip, 11);
 }
@@ -158,8 +240,17 @@ fn banked_power_on() {
     }
 }
 
+fn seven_power_on() {
+    for table in 1..7u8 {
+        power_on_seven(table);
+    }
+}
+
 fn main() {
     figures();
+    seven_figures();
+    unordered_seven();
+    behind_the_points();
     whole_curve();
     all_steps();
     unordered();
@@ -169,12 +260,15 @@ fn main() {
     power_on(2, 1);
     power_on(2, 2);
     banked_power_on();
+    seven_power_on();
     banked_tables::print_all();
+    unmasked::print_all();
     tables(0);
     tables(1);
     tables(2);
     tables(3);
     tables(4);
     tables(5);
+    tables(6);
     tables(255);
 }

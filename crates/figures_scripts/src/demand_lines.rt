@@ -1,6 +1,7 @@
 // Plays that stop at each number of writes, `stop chip C table T count N writes N changed N`, then for five temperatures `T OLD STOP PLAN`: the speed
 // that the image asked before, asks at the stop, and that the plan asks. At no stop is it slower than the slower of the old one and the plan's.
-// `played chip 4 table T select SS writes N changed` has each position that a whole play changes, and its byte.
+// `played chip C table T select SS writes N changed` has each position that a whole play changes, and its byte. `shared chip 5 table T`, then for three
+// temperatures `T OLD NEW`: what a table asks before and after a play of table 1, which moves the critical temperature of all six.
 use crate::script_lines;
 use curves::Plan;
 
@@ -10,11 +11,14 @@ const STEPPED: [u8; 5] = [15, 30, 50, 60, 75];
 
 const BANKED: [u8; 5] = [0xEC, 38, 43, 53, 90];
 
+const SEVEN: [u8; 5] = [0xEC, 38, 43, 58, 78];
+
 fn temperatures(chip: u8) -> [u8; 5] {
     match chip {
         1 => SLOPED,
         2 => STEPPED,
-        _ => BANKED,
+        4 => BANKED,
+        _ => SEVEN,
     }
 }
 
@@ -119,6 +123,16 @@ pub fn slope(chip: u8, table: u8, critical: u8) -> Plan {
     )
 }
 
+// Of chip 5, whose power-on image asks 14 at 38 degrees: with the temperatures first, it would ask 8.
+pub fn seven(table: u8) -> Plan {
+    figures_samples::seven(
+        table,
+        [40, 44, 48, 52, 56, 60, 66],
+        75,
+        [15, 20, 25, 35, 45, 55, 62],
+    )
+}
+
 pub fn stepped() -> Plan {
     figures_samples::steps(
         1,
@@ -198,27 +212,135 @@ fn banked() {
     stop_from_banked(slope(4, 7, 95), image, 14);
 }
 
-// From another bank each time.
-fn played(table: u8) {
-    let old = power_on_banked(table % 8);
-    let mut new = old;
-    figures_printing::labelled(b"played chip 4 table ", table as u64);
+fn power_on_seven(select: u8) -> [u8; 768] {
+    let mut image = [0u8; 768];
+    images::reset(5, &mut image);
+    image[0x00] = select;
+    image
+}
+
+// Table 4 in no order, with bits set that its registers don't take, while a bank is selected that the sheet lacks, and bits 6 to 3 of the select register
+// are set.
+pub fn unordered_seven() -> [u8; 768] {
+    let mut image = power_on_seven(0x7E);
+    image[0x260] = 0x9E;
+    image[0x261] = 60;
+    image[0x262] = 40;
+    image[0x263] = 50;
+    image[0x264] = 35;
+    image[0x265] = 20;
+    image[0x266] = 0xC6;
+    image[0x0C5] = 0xD5;
+    image[0x268] = 40;
+    image[0x269] = 0xD4;
+    image[0x26A] = 10;
+    image[0x26B] = 50;
+    image[0x26C] = 0x5E;
+    image[0x26D] = 5;
+    image[0x26E] = 0xFF;
+    image
+}
+
+fn stops_from_seven(plan: Plan, old: [u8; 768]) {
+    let mut new = [0u8; 768];
+    stops(plan, &old, &mut new, 27);
+}
+
+fn stop_from_seven(plan: Plan, old: [u8; 768], count: usize) {
+    let mut new = [0u8; 768];
+    stop(plan, &old, &mut new, count);
+}
+
+// Of the unordered image with one byte of its identity changed.
+fn stop_with(at: usize, byte: u8) {
+    let mut image = unordered_seven();
+    put(&mut image, at, byte);
+    stop_from_seven(seven(4), image, 25);
+}
+
+// Of chip 5.
+fn seven_points() {
+    stops_from_seven(seven(1), power_on_seven(0x80));
+    stops_from_seven(seven(4), unordered_seven());
+    // Images of another length: nothing is written.
+    stop_from_banked(seven(1), power_on_banked(0), 25);
+    stop_from_seven(slope(4, 1, 95), power_on_seven(0x80), 14);
+    // Version 12h is confirmed, 13h is not, and the vendor byte's low half is not.
+    stop_with(0x0F, 0x12);
+    stop_with(0x0F, 0x13);
+    stop_with(0x0D, 0xA3);
+}
+
+fn played(plan: Plan, select: u8, old: &[u8], new: &mut [u8]) {
+    figures_printing::text(b"played");
+    figures_samples::head(plan);
     figures_printing::text(b" select ");
-    figures_printing::byte(table % 8);
-    script_lines::made(plays::play(figures_samples::banked(table), &mut new, 14));
+    figures_printing::byte(select);
+    script_lines::made(plays::play(plan, new, 25));
     figures_printing::text(b" changed");
-    figures_printing::changes(&old, &new);
+    figures_printing::changes(old, new);
     figures_printing::line_end();
 }
 
-fn all_played() {
+fn played_4(table: u8) {
+    let old = power_on_banked(table % 8);
+    let mut new = old;
+    played(figures_samples::banked(table), table % 8, &old, &mut new);
+}
+
+fn played_5(table: u8) {
+    let select = 0xA8 | table % 8;
+    let old = power_on_seven(select);
+    let mut new = old;
+    played(figures_samples::other_seven(table), select, &old, &mut new);
+}
+
+// From another bank each time.
+fn all_played_of_4() {
     for table in 1..11u8 {
-        played(table);
+        played_4(table);
     }
+}
+
+fn all_played_of_5() {
+    for table in 1..7u8 {
+        played_5(table);
+    }
+}
+
+fn before_and_after(table: u8, old: &[u8], new: &[u8], t: u8) {
+    figures_printing::text(b", ");
+    figures_samples::degrees(5, t);
+    figures_samples::speed(5, plans::asked_of_image(5, table, old, t));
+    figures_samples::speed(5, plans::asked_of_image(5, table, new, t));
+}
+
+fn shared_by(table: u8, old: &[u8], new: &[u8]) {
+    figures_printing::labelled(b"shared chip 5 table ", table as u64);
+    before_and_after(table, old, new, 53);
+    before_and_after(table, old, new, 74);
+    before_and_after(table, old, new, 75);
+    figures_printing::line_end();
+}
+
+fn shared_by_all(old: &[u8], new: &[u8]) {
+    for table in 1..7u8 {
+        shared_by(table, old, new);
+    }
+}
+
+fn shared() {
+    let old = power_on_seven(0x80);
+    let mut new = old;
+    plays::play(figures_samples::other_seven(1), &mut new, 25);
+    shared_by_all(&old, &new);
 }
 
 pub fn print_all() {
     one_bank();
     banked();
-    all_played();
+    seven_points();
+    all_played_of_4();
+    all_played_of_5();
+    shared();
 }

@@ -38,7 +38,13 @@ fn run_from_banked(plan: Plan, start: [u8; 1280], counts: [u8; 5]) {
     run(plan, &start, &mut image, &counts);
 }
 
-// Cut while speeds are raised, while settings move and while speeds settle; before the first write; and at last not at all.
+fn run_from_seven(plan: Plan, start: [u8; 768], counts: [u8; 5]) {
+    let mut image = start;
+    run(plan, &start, &mut image, &counts);
+}
+
+// Cut while speeds are raised, while settings move and while speeds settle; before the first write; and at last not at all. Of chip 5 also between the
+// select of bank 0 and critical.
 pub fn print_all() {
     run_from(
         demand_lines::slope(1, 1, 65),
@@ -54,5 +60,10 @@ pub fn print_all() {
         demand_lines::slope(4, 7, 95),
         demand_lines::unordered(),
         [7, 0, 12, 1, 99],
+    );
+    run_from_seven(
+        demand_lines::seven(4),
+        demand_lines::unordered_seven(),
+        [16, 0, 22, 3, 99],
     );
 }

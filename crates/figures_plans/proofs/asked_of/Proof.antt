@@ -6,16 +6,19 @@ use Rattle.figures_plans.proofs.asked_of.Statement.{statement}
 use Rattle.figures_plans.proofs.asked_of.Tie as tie
 
 abbrev Inv-loop : tie.InvT-loop
-Inv-loop chip table image k₀ k = k ≤ 14
+Inv-loop chip table image at k₀ k = k ≤ 14
 
 abbrev μ-loop : tie.MeasureT-loop
-μ-loop chip table image k₀ k = 14 - k
+μ-loop chip table image at k₀ k = 14 - k
+
+temperatures-requires : tie.Need-temperatures-requires Inv-loop μ-loop
+temperatures-requires c κs = search needs
 
 loop-holds : tie.Need-loop-holds Inv-loop μ-loop
 loop-holds c = search needs
 
-temperature-requires : tie.Need-temperature-requires Inv-loop μ-loop
-temperature-requires c κs = search needs
+array-read-image-at : tie.Need-array-read-image-at Inv-loop μ-loop
+array-read-image-at c = search needs
 
 image-at-requires : tie.Need-image-at-requires Inv-loop μ-loop
 image-at-requires c κs = search needs
@@ -38,8 +41,9 @@ asked-of-spec =
     (tie.spec
     Inv-loop
     μ-loop
+    temperatures-requires
     loop-holds
-    temperature-requires
+    array-read-image-at
     image-at-requires
     add-k
     loop-less

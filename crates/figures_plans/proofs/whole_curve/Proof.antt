@@ -20,6 +20,9 @@ paper-at-requires c κs = search needs
 banked-at-requires : tie.Need-banked-at-requires Inv-loop μ-loop
 banked-at-requires c κs = search needs
 
+seven-at-requires : tie.Need-seven-at-requires Inv-loop μ-loop
+seven-at-requires c κs = search needs
+
 add-k : tie.Need-add-k Inv-loop μ-loop
 add-k c = search needs
 
@@ -44,6 +47,7 @@ whole-curve-spec =
     loop-holds
     paper-at-requires
     banked-at-requires
+    seven-at-requires
     add-k
     loop-less
     loop-again

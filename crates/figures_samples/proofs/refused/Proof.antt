@@ -21,8 +21,8 @@ past (suc n) k none = omega (arith, past n k (none .0), none .1)
 paper-requires : tie.Need-paper-requires
 paper-requires c κs = search needs
 
-slope-requires : tie.Need-slope-requires
-slope-requires c κs = search needs
+muddled-requires : tie.Need-muddled-requires
+muddled-requires c κs = search needs
 
 paper-requires-2 : tie.Need-paper-requires-2
 paper-requires-2 c κs = search needs
@@ -30,8 +30,8 @@ paper-requires-2 c κs = search needs
 paper-requires-3 : tie.Need-paper-requires-3
 paper-requires-3 c κs = search needs
 
-slope-requires-2 : tie.Need-slope-requires-2
-slope-requires-2 c κs = search needs
+muddled-requires-2 : tie.Need-muddled-requires-2
+muddled-requires-2 c κs = search needs
 
 steps-requires : tie.Need-steps-requires
 steps-requires c κs = search needs
@@ -42,8 +42,23 @@ paper-requires-4 c κs = search needs
 paper-requires-5 : tie.Need-paper-requires-5
 paper-requires-5 c κs = search needs
 
+muddled-requires-3 : tie.Need-muddled-requires-3
+muddled-requires-3 c κs = search needs
+
+slope-requires : tie.Need-slope-requires
+slope-requires c κs = search needs
+
+slope-requires-2 : tie.Need-slope-requires-2
+slope-requires-2 c κs = search needs
+
 slope-requires-3 : tie.Need-slope-requires-3
 slope-requires-3 c κs = search needs
+
+steps-requires-2 : tie.Need-steps-requires-2
+steps-requires-2 c κs = search needs
+
+steps-requires-3 : tie.Need-steps-requires-3
+steps-requires-3 c κs = search needs
 
 slope-requires-4 : tie.Need-slope-requires-4
 slope-requires-4 c κs = search needs
@@ -54,35 +69,59 @@ slope-requires-5 c κs = search needs
 slope-requires-6 : tie.Need-slope-requires-6
 slope-requires-6 c κs = search needs
 
-steps-requires-2 : tie.Need-steps-requires-2
-steps-requires-2 c κs = search needs
-
-steps-requires-3 : tie.Need-steps-requires-3
-steps-requires-3 c κs = search needs
-
 slope-requires-7 : tie.Need-slope-requires-7
 slope-requires-7 c κs = search needs
 
 slope-requires-8 : tie.Need-slope-requires-8
 slope-requires-8 c κs = search needs
 
-slope-requires-9 : tie.Need-slope-requires-9
-slope-requires-9 c κs = search needs
-
-slope-requires-10 : tie.Need-slope-requires-10
-slope-requires-10 c κs = search needs
-
-slope-requires-11 : tie.Need-slope-requires-11
-slope-requires-11 c κs = search needs
-
 steps-requires-4 : tie.Need-steps-requires-4
 steps-requires-4 c κs = search needs
+
+counted-requires : tie.Need-counted-requires
+counted-requires c κs = search needs
+
+counted-requires-2 : tie.Need-counted-requires-2
+counted-requires-2 c κs = search needs
+
+counted-requires-3 : tie.Need-counted-requires-3
+counted-requires-3 c κs = search needs
+
+counted-requires-4 : tie.Need-counted-requires-4
+counted-requires-4 c κs = search needs
+
+counted-requires-5 : tie.Need-counted-requires-5
+counted-requires-5 c κs = search needs
+
+muddled-requires-4 : tie.Need-muddled-requires-4
+muddled-requires-4 c κs = search needs
+
+seven-requires : tie.Need-seven-requires
+seven-requires c κs = search needs
+
+seven-requires-2 : tie.Need-seven-requires-2
+seven-requires-2 c κs = search needs
+
+seven-requires-3 : tie.Need-seven-requires-3
+seven-requires-3 c κs = search needs
+
+seven-requires-4 : tie.Need-seven-requires-4
+seven-requires-4 c κs = search needs
+
+seven-requires-5 : tie.Need-seven-requires-5
+seven-requires-5 c κs = search needs
+
+seven-requires-6 : tie.Need-seven-requires-6
+seven-requires-6 c κs = search needs
+
+seven-requires-7 : tie.Need-seven-requires-7
+seven-requires-7 c κs = search needs
 
 returns : tie.Need-returns
 returns c = c .paper .ensures ∙ sym (ap refusedAt (c .before .match .keys1))
 
 returns-2 : tie.Need-returns-2
-returns-2 c = c .slope .ensures ∙ sym (ap refusedAt (c .before .match .keys2))
+returns-2 c = c .muddled .ensures ∙ sym (ap refusedAt (c .before .match .keys2))
 
 returns-3 : tie.Need-returns-3
 returns-3 c = c .paper2 .ensures ∙ sym (ap refusedAt (c .before .match .keys3))
@@ -91,7 +130,7 @@ returns-4 : tie.Need-returns-4
 returns-4 c = c .paper3 .ensures ∙ sym (ap refusedAt (c .before .match .keys4))
 
 returns-5 : tie.Need-returns-5
-returns-5 c = c .slope2 .ensures ∙ sym (ap refusedAt (c .before .match .keys5))
+returns-5 c = c .muddled2 .ensures ∙ sym (ap refusedAt (c .before .match .keys5))
 
 returns-6 : tie.Need-returns-6
 returns-6 c = c .steps .ensures ∙ sym (ap refusedAt (c .before .match .keys6))
@@ -103,16 +142,16 @@ returns-8 : tie.Need-returns-8
 returns-8 c = c .paper5 .ensures ∙ sym (ap refusedAt (c .before .match .keys8))
 
 returns-9 : tie.Need-returns-9
-returns-9 c = c .slope3 .ensures ∙ sym (ap refusedAt (c .before .match .keys9))
+returns-9 c = c .muddled3 .ensures ∙ sym (ap refusedAt (c .before .match .keys9))
 
 returns-10 : tie.Need-returns-10
-returns-10 c = c .slope4 .ensures ∙ sym (ap refusedAt (c .before .match .keys10))
+returns-10 c = c .slope .ensures ∙ sym (ap refusedAt (c .before .match .keys10))
 
 returns-11 : tie.Need-returns-11
-returns-11 c = c .slope5 .ensures ∙ sym (ap refusedAt (c .before .match .keys11))
+returns-11 c = c .slope2 .ensures ∙ sym (ap refusedAt (c .before .match .keys11))
 
 returns-12 : tie.Need-returns-12
-returns-12 c = c .slope6 .ensures ∙ sym (ap refusedAt (c .before .match .keys12))
+returns-12 c = c .slope3 .ensures ∙ sym (ap refusedAt (c .before .match .keys12))
 
 returns-13 : tie.Need-returns-13
 returns-13 c = c .steps2 .ensures ∙ sym (ap refusedAt (c .before .match .keys13))
@@ -121,49 +160,101 @@ returns-14 : tie.Need-returns-14
 returns-14 c = c .steps3 .ensures ∙ sym (ap refusedAt (c .before .match .keys14))
 
 returns-15 : tie.Need-returns-15
-returns-15 c = c .slope7 .ensures ∙ sym (ap refusedAt (c .before .match .keys15))
+returns-15 c = c .slope4 .ensures ∙ sym (ap refusedAt (c .before .match .keys15))
 
 returns-16 : tie.Need-returns-16
-returns-16 c = c .slope8 .ensures ∙ sym (ap refusedAt (c .before .match .keys16))
+returns-16 c = c .slope5 .ensures ∙ sym (ap refusedAt (c .before .match .keys16))
 
 returns-17 : tie.Need-returns-17
-returns-17 c = c .slope9 .ensures ∙ sym (ap refusedAt (c .before .match .keys17))
+returns-17 c = c .slope6 .ensures ∙ sym (ap refusedAt (c .before .match .keys17))
 
 returns-18 : tie.Need-returns-18
-returns-18 c = c .slope10 .ensures ∙ sym (ap refusedAt (c .before .match .keys18))
+returns-18 c = c .slope7 .ensures ∙ sym (ap refusedAt (c .before .match .keys18))
 
 returns-19 : tie.Need-returns-19
-returns-19 c = c .slope11 .ensures ∙ sym (ap refusedAt (c .before .match .keys19))
+returns-19 c = c .slope8 .ensures ∙ sym (ap refusedAt (c .before .match .keys19))
 
 returns-20 : tie.Need-returns-20
-returns-20 c =
+returns-20 c = c .steps4 .ensures ∙ sym (ap refusedAt (c .before .match .keys20))
+
+returns-21 : tie.Need-returns-21
+returns-21 c = c .counted .ensures ∙ sym (ap refusedAt (c .before .match .keys21))
+
+returns-22 : tie.Need-returns-22
+returns-22 c = c .counted2 .ensures ∙ sym (ap refusedAt (c .before .match .keys22))
+
+returns-23 : tie.Need-returns-23
+returns-23 c = c .counted3 .ensures ∙ sym (ap refusedAt (c .before .match .keys23))
+
+returns-24 : tie.Need-returns-24
+returns-24 c = c .counted4 .ensures ∙ sym (ap refusedAt (c .before .match .keys24))
+
+returns-25 : tie.Need-returns-25
+returns-25 c = c .counted5 .ensures ∙ sym (ap refusedAt (c .before .match .keys25))
+
+returns-26 : tie.Need-returns-26
+returns-26 c = c .muddled4 .ensures ∙ sym (ap refusedAt (c .before .match .keys26))
+
+returns-27 : tie.Need-returns-27
+returns-27 c = c .seven .ensures ∙ sym (ap refusedAt (c .before .match .keys27))
+
+returns-28 : tie.Need-returns-28
+returns-28 c = c .seven2 .ensures ∙ sym (ap refusedAt (c .before .match .keys28))
+
+returns-29 : tie.Need-returns-29
+returns-29 c = c .seven3 .ensures ∙ sym (ap refusedAt (c .before .match .keys29))
+
+returns-30 : tie.Need-returns-30
+returns-30 c = c .seven4 .ensures ∙ sym (ap refusedAt (c .before .match .keys30))
+
+returns-31 : tie.Need-returns-31
+returns-31 c = c .seven5 .ensures ∙ sym (ap refusedAt (c .before .match .keys31))
+
+returns-32 : tie.Need-returns-32
+returns-32 c = c .seven6 .ensures ∙ sym (ap refusedAt (c .before .match .keys32))
+
+returns-33 : tie.Need-returns-33
+returns-33 c =
     let k = c .before .before .args .k in
-    c .steps4 .ensures ∙ sym (List·getD-eq-default refusedOnes _ {n = k} (past 19 k (c .before .match .rest)))
+    c .seven7 .ensures ∙ sym (List·getD-eq-default refusedOnes _ {n = k} (past 32 k (c .before .match .rest)))
 
 pub refused-spec : {M : Type 1} → statement M
 refused-spec =
     tie.close
     (tie.spec
     paper-requires
-    slope-requires
+    muddled-requires
     paper-requires-2
     paper-requires-3
-    slope-requires-2
+    muddled-requires-2
     steps-requires
     paper-requires-4
     paper-requires-5
+    muddled-requires-3
+    slope-requires
+    slope-requires-2
     slope-requires-3
+    steps-requires-2
+    steps-requires-3
     slope-requires-4
     slope-requires-5
     slope-requires-6
-    steps-requires-2
-    steps-requires-3
     slope-requires-7
     slope-requires-8
-    slope-requires-9
-    slope-requires-10
-    slope-requires-11
     steps-requires-4
+    counted-requires
+    counted-requires-2
+    counted-requires-3
+    counted-requires-4
+    counted-requires-5
+    muddled-requires-4
+    seven-requires
+    seven-requires-2
+    seven-requires-3
+    seven-requires-4
+    seven-requires-5
+    seven-requires-6
+    seven-requires-7
     returns
     returns-2
     returns-3
@@ -183,4 +274,17 @@ refused-spec =
     returns-17
     returns-18
     returns-19
-    returns-20)
+    returns-20
+    returns-21
+    returns-22
+    returns-23
+    returns-24
+    returns-25
+    returns-26
+    returns-27
+    returns-28
+    returns-29
+    returns-30
+    returns-31
+    returns-32
+    returns-33)

@@ -6,10 +6,10 @@ use Rattle.figures_chips.proofs.banks.digest_of_reads.Statement.{statem
 use Rattle.figures_chips.proofs.banks.digest_of_reads.Tie as tie
 
 abbrev Inv-loop : tie.InvT-loop
-Inv-loop image digest₀ address₀ digest address = address ≤ 255
+Inv-loop chip image digest₀ address₀ digest address = address ≤ 255
 
 abbrev μ-loop : tie.MeasureT-loop
-μ-loop image digest₀ address₀ digest address = 255 - address
+μ-loop chip image digest₀ address₀ digest address = 255 - address
 
 loop-holds : tie.Need-loop-holds Inv-loop μ-loop
 loop-holds c = search needs

@@ -6,10 +6,13 @@ use Rattle.figures_plans.proofs.banked_tables.digest.Statement.{stateme
 use Rattle.figures_plans.proofs.banked_tables.digest.Tie as tie
 
 abbrev Inv-loop : tie.InvT-loop
-Inv-loop table image digest₀ k₀ digest k = k ≤ 14
+Inv-loop chip table image at digest₀ k₀ digest k = k ≤ 14
 
 abbrev μ-loop : tie.MeasureT-loop
-μ-loop table image digest₀ k₀ digest k = 14 - k
+μ-loop chip table image at digest₀ k₀ digest k = 14 - k
+
+temperatures-requires : tie.Need-temperatures-requires Inv-loop μ-loop
+temperatures-requires c κs = search needs
 
 loop-holds : tie.Need-loop-holds Inv-loop μ-loop
 loop-holds c = search needs
@@ -17,8 +20,8 @@ loop-holds c = search needs
 mul-digest : tie.Need-mul-digest Inv-loop μ-loop
 mul-digest c = search needs
 
-temperature-requires : tie.Need-temperature-requires Inv-loop μ-loop
-temperature-requires c κs = search needs
+array-read-asked : tie.Need-array-read-asked Inv-loop μ-loop
+array-read-asked c = search needs
 
 asked-requires : tie.Need-asked-requires Inv-loop μ-loop
 asked-requires c κs = search needs
@@ -44,9 +47,10 @@ digest-spec =
     (tie.spec
     Inv-loop
     μ-loop
+    temperatures-requires
     loop-holds
     mul-digest
-    temperature-requires
+    array-read-asked
     asked-requires
     add-digest
     add-k

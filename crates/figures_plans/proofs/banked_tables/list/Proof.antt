@@ -8,10 +8,10 @@ use Rattle.figures_plans.proofs.banked_tables.list.Statement.{statement
 use Rattle.figures_plans.proofs.banked_tables.list.Tie as tie
 
 abbrev Inv-loop : tie.InvT-loop
-Inv-loop table image₀ before at₀ at-end image at = (at ≤ at-end) × (length image ≡ length image₀)
+Inv-loop chip table image₀ before at₀ at-end image at = (at ≤ at-end) × (length image ≡ length image₀)
 
 abbrev μ-loop : tie.MeasureT-loop
-μ-loop table image₀ before at₀ at-end image at = at-end - at
+μ-loop chip table image₀ before at₀ at-end image at = at-end - at
 
 digest-requires : tie.Need-digest-requires Inv-loop μ-loop
 digest-requires c κs = search needs

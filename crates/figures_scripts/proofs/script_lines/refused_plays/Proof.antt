@@ -1,4 +1,4 @@
--- `script_lines::refused_plays` is safe and ends: the loop counts up to 20.
+-- `script_lines::refused_plays` is safe and ends: the loop counts up to 33.
 -- Assumes what libc promises of `write`: that it moves no more bytes than its buffer has.
 use borrow.Author.Needs.{needs}
 use Prim.Native.Nat.{_≤_, _-_}
@@ -6,10 +6,10 @@ use Rattle.figures_scripts.proofs.script_lines.refused_plays.Statement.
 use Rattle.figures_scripts.proofs.script_lines.refused_plays.Tie as tie
 
 abbrev Inv-loop : tie.InvT-loop
-Inv-loop k₀ k = k ≤ 20
+Inv-loop k₀ k = k ≤ 33
 
 abbrev μ-loop : tie.MeasureT-loop
-μ-loop k₀ k = 20 - k
+μ-loop k₀ k = 33 - k
 
 loop-holds : tie.Need-loop-holds Inv-loop μ-loop
 loop-holds c = search needs
@@ -31,6 +31,12 @@ refused-requires-3 c κs = search needs
 
 play-requires-3 : tie.Need-play-requires-3 Inv-loop μ-loop
 play-requires-3 c κs = search needs
+
+refused-requires-4 : tie.Need-refused-requires-4 Inv-loop μ-loop
+refused-requires-4 c κs = search needs
+
+play-requires-4 : tie.Need-play-requires-4 Inv-loop μ-loop
+play-requires-4 c κs = search needs
 
 add-k : tie.Need-add-k Inv-loop μ-loop
 add-k c = search needs
@@ -57,6 +63,8 @@ refused-plays-spec =
     play-requires-2
     refused-requires-3
     play-requires-3
+    refused-requires-4
+    play-requires-4
     add-k
     loop-less
     loop-again

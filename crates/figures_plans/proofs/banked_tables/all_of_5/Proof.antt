@@ -1,21 +1,21 @@
--- `demand_lines::all_played` is safe and ends: the loop counts up to 11.
+-- `banked_tables::all_of_5` is safe and ends: the loop counts up to 7.
 -- Assumes what libc promises of `write`: that it moves no more bytes than its buffer has.
 use borrow.Author.Needs.{needs}
 use Prim.Native.Nat.{_≤_, _-_}
-use Rattle.figures_scripts.proofs.demand_lines.all_played.Statement.{statement}
-use Rattle.figures_scripts.proofs.demand_lines.all_played.Tie as tie
+use Rattle.figures_plans.proofs.banked_tables.all_of_5.Statement.{statement}
+use Rattle.figures_plans.proofs.banked_tables.all_of_5.Tie as tie
 
 abbrev Inv-loop : tie.InvT-loop
-Inv-loop table₀ table = table ≤ 11
+Inv-loop table₀ table = table ≤ 7
 
 abbrev μ-loop : tie.MeasureT-loop
-μ-loop table₀ table = 11 - table
+μ-loop table₀ table = 7 - table
 
 loop-holds : tie.Need-loop-holds Inv-loop μ-loop
 loop-holds c = search needs
 
-played-requires : tie.Need-played-requires Inv-loop μ-loop
-played-requires c κs = search needs
+looks-5-requires : tie.Need-looks-5-requires Inv-loop μ-loop
+looks-5-requires c κs = search needs
 
 add-table : tie.Need-add-table Inv-loop μ-loop
 add-table c = search needs
@@ -29,7 +29,7 @@ loop-again c = search needs
 returns : tie.Need-returns Inv-loop μ-loop
 returns c = search needs
 
-pub all-played-spec : {M : Type 1} → statement M
-all-played-spec =
+pub all-of-5-spec : {M : Type 1} → statement M
+all-of-5-spec =
     tie.close
-    (tie.spec Inv-loop μ-loop loop-holds played-requires add-table loop-less loop-again returns)
+    (tie.spec Inv-loop μ-loop loop-holds looks-5-requires add-table loop-less loop-again returns)
