@@ -112,10 +112,10 @@ slope-back true n values rest t d =
     let ds = take n (values .duties) in
     let long = length-take-le n (values .temperatures) t in
     let temperatures : pointsIn n 1 (c ∷ ((ts ++ ds) ++ rest)) ≡ pointsIn n 0 (values .temperatures) =
-        ap (λ (l : List ℕ). pointsIn n 1 (c ∷ l)) (append-assoc ts ds rest) ∙ points-back n 1 (c ∷ []) (values .temperatures) (ds ++ rest) refl t in
+    ap (λ (l : List ℕ). pointsIn n 1 (c ∷ l)) (append-assoc ts ds rest) ∙ points-back n 1 (c ∷ []) (values .temperatures) (ds ++ rest) refl t in
     let duties : pointsIn n (n + 1) (c ∷ ((ts ++ ds) ++ rest)) ≡ pointsIn n 0 (values .duties) =
-        ap (λ (l : List ℕ). pointsIn n (n + 1) (c ∷ l)) (append-assoc ts ds rest)
-        ∙ points-back n (n + 1) (c ∷ ts) (values .duties) rest (omega (arith, long)) d in
+    ap (λ (l : List ℕ). pointsIn n (n + 1) (c ∷ l)) (append-assoc ts ds rest)
+    ∙ points-back n (n + 1) (c ∷ ts) (values .duties) rest (omega (arith, long)) d in
     λ i. record { temperatures = temperatures i; critical = c; duties = duties i }
 slope-back false n values rest t d =
     let c = values .critical in
@@ -127,10 +127,10 @@ slope-back false n values rest t d =
     let spread : bytes ≡ front ++ (ds ++ rest) = append-assoc front ds rest in
     let apart : bytes ≡ ts ++ (c ∷ (ds ++ rest)) = spread ∙ append-assoc ts (c ∷ []) (ds ++ rest) in
     let temperatures : pointsIn n 0 bytes ≡ pointsIn n 0 (values .temperatures) =
-        ap (pointsIn n 0) apart ∙ points-back n 0 [] (values .temperatures) (c ∷ (ds ++ rest)) refl t in
+    ap (pointsIn n 0) apart ∙ points-back n 0 [] (values .temperatures) (c ∷ (ds ++ rest)) refl t in
     let critical : getD bytes n 0 ≡ c = ap (λ (l : List ℕ). getD l n 0) apart ∙ getD-at ts c (ds ++ rest) 0 n long in
     let duties : pointsIn n (n + 1) bytes ≡ pointsIn n 0 (values .duties) =
-        ap (pointsIn n (n + 1)) spread ∙ points-back n (n + 1) front (values .duties) rest (omega (arith, length-append ts (c ∷ []), long)) d in
+    ap (pointsIn n (n + 1)) spread ∙ points-back n (n + 1) front (values .duties) rest (omega (arith, length-append ts (c ∷ []), long)) d in
     λ i. record { temperatures = temperatures i; critical = critical i; duties = duties i }
 
 pub steps-back : (values : StepValues) (rest : List ℕ) → length (values .bounds) ≡ 4 → length (values .counts) ≡ 5
@@ -147,7 +147,7 @@ pub body-back : (leading : Bool) (shape : Shape) (points : ℕ) (plan : Plan) (r
     → decoded leading shape (plan .chip) (plan .table) points (bodyOf leading shape plan ++ rest) ≡ ownOf shape points plan
 body-back leading (Slope count full) points plan rest sized p =
     let values =
-        slope-back leading count (plan .slope) rest (omega (arith, sized .temperatures, p)) (omega (arith, sized .duties, p)) in
+    slope-back leading count (plan .slope) rest (omega (arith, sized .temperatures, p)) (omega (arith, sized .duties, p)) in
     λ i. record { chip = plan .chip; table = plan .table; points = points; slope = values i; steps = noSteps }
 body-back leading Steps points plan rest sized p =
     let values = steps-back (plan .steps) rest (sized .bounds) (sized .counts) in

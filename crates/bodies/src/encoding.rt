@@ -12,7 +12,13 @@ ghost use Rattle.curves.specs.Curves.{halves};
 ghost use Rattle.bodies.specs.Bodies.{slopeBody};
 
 // The temperatures of some points and critical, by place: critical leads, or stands behind them.
-fn setting_at(leading: bool, count: usize, temperatures: [u8; MOST_POINTS], critical: u8, k: usize) -> u8
+fn setting_at(
+    leading: bool,
+    count: usize,
+    temperatures: [u8; MOST_POINTS],
+    critical: u8,
+    k: usize,
+) -> u8
     requires { ⌜ count ≤ mostPoints ⌝ }
     requires { ⌜ k ≤ count ⌝ }
     ensures { λ r. ⌜ r ≡ getD (cond leading (critical ∷ take count temperatures) (take count temperatures ++ (critical ∷ []))) k 0 ⌝ }

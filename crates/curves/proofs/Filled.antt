@@ -54,9 +54,8 @@ within-halves [] h = tt
 within-halves (c ∷ cs) h = (omega (arith, h .0), (omega arith, within-halves cs (h .1)))
 
 pub planned-within : (shape : Shape) (plan : Plan) → Typed plan → Within 8 (planned shape plan .settings) × Within 8 (planned shape plan .speeds)
-planned-within (Slope points full) plan typed =
-    (
-      within-append (take points (plan .slope .temperatures)) (plan .slope .critical ∷ []) (within-take points _ (typed .temperatures)) (typed .critical, tt),
-      within-take points _ (typed .duties),
-    )
+planned-within (Slope points full) plan typed = (
+  within-append (take points (plan .slope .temperatures)) (plan .slope .critical ∷ []) (within-take points _ (typed .temperatures)) (typed .critical, tt),
+  within-take points _ (typed .duties),
+)
 planned-within Steps plan typed = (typed .bounds, within-halves (plan .steps .counts) (typed .counts))

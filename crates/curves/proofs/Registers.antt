@@ -33,9 +33,9 @@ planned-duty number full plan t sized =
     let ts = take number (plan .slope .temperatures) in
     let n = length (take number (plan .slope .duties)) in
     let h : length ts ≡ n =
-        length-take number (plan .slope .temperatures)
-        ∙ ap (min number) (sized .temperatures ∙ sym (sized .duties))
-        ∙ sym (length-take number (plan .slope .duties)) in
+    length-take number (plan .slope .temperatures)
+    ∙ ap (min number) (sized .temperatures ∙ sym (sized .duties))
+    ∙ sym (length-take number (plan .slope .duties)) in
     rw (take-at ts (plan .slope .critical ∷ []) n h, getD-at ts (plan .slope .critical) [] 0 n h)
 
 pub planned-count : (plan : Plan) (t : ℕ) → stepRule (plan .steps .bounds) (plan .steps .counts) t ≡ asks Steps (planned Steps plan) t

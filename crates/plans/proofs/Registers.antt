@@ -75,11 +75,11 @@ module _ (chip : Chip) (chipNumber number : ℕ) (image : List ℕ) where
       by-shape (Slope n full) long p =
           let all = column-length longest (λ k. worthAt (registerIn (sheetOf chip) number k) image) in
           let settings =
-              settings-taken false n bytes p (omega (arith, all, p))
-              ∙ sym (in-a-row bytes 0 (n + 1) (omega (arith, all, p))) ∙ front (n + 1) (omega (arith, p)) (long .0) in
+          settings-taken false n bytes p (omega (arith, all, p))
+          ∙ sym (in-a-row bytes 0 (n + 1) (omega (arith, all, p))) ∙ front (n + 1) (omega (arith, p)) (long .0) in
           let speeds =
-              points-taken n (n + 1) bytes p (omega (arith, all, p))
-              ∙ sym (in-a-row bytes (n + 1) n (omega (arith, all, p))) ∙ back (n + 1) n (omega (arith, p)) (long .0) (long .1) in
+          points-taken n (n + 1) bytes p (omega (arith, all, p))
+          ∙ sym (in-a-row bytes (n + 1) n (omega (arith, all, p))) ∙ back (n + 1) n (omega (arith, p)) (long .0) (long .1) in
           ap (λ (curve : Curve). asks (Slope n full) curve t) (λ i. record { settings = settings i; speeds = speeds i })
       by-shape Steps long p =
           sym (planned-count (decoded false Steps chipNumber number 0 bytes) t)

@@ -2,8 +2,8 @@
 -- Assumes nothing.
 use Prim.Native.Nat.{ℕ, _+_, _≤_, _<_}
 use native.Mathlib.Omega.{arith}
-use mathlib.Core.Path.{_≡_, refl, sym, ap, _∙_}
-use mathlib.Core.Bool.{Bool, true, false, not, _&&_, _||_}
+use mathlib.Core.Path.{_≡_, refl, sym, ap, ap₂, _∙_}
+use mathlib.Core.Bool.{Bool, true, false, cond, not, _&&_}
 use mathlib.Core.List.{List, [], _++_}
 use borrow.Author.Tests.{lt-ltb, le-ltb, ltb-false, not-false}
 use lib.Dec.{eqb, ltb}
@@ -29,16 +29,21 @@ use Rattle.refusal.specs.declared.Amount.the-variants as amount
 use Rattle.refusal.specs.Answers.{tellsAmount}
 use Rattle.pages.specs.declared.Chip.{Chip}
 use Rattle.pages.specs.declared.Named.the-variants.{Known}
-use Rattle.pages.specs.Cards.{chipOf, whenKnown, hasTable, shapeOf, layoutOf}
+use Rattle.pages.specs.declared.Shape.{Shape}
+use Rattle.pages.specs.declared.Layout.{Layout}
+use Rattle.pages.specs.Sheets.{goesWith}
+use Rattle.pages.specs.Cards.{chipOf, whenKnown, hasTable, layoutOf}
 use Rattle.pages.proofs.Numbers.{chip-known}
 use Rattle.curves.specs.declared.Plan.{Plan}
 use Rattle.bodies.specs.Bodies.{decoded}
+use Rattle.plans.specs.Plans.{pointsPass}
 use Rattle.plans.specs.Contracts.{askPlanChecks, orderChecks, planChecks}
 use Rattle.records.specs.declared.Found.{Found}
-use Rattle.records.specs.Records.{bodyLength, recordLength, recordOf, encoded, chipNumberIn, tableNumberIn, bodyIn, noPlan, planOf, planIn}
+use Rattle.records.specs.Records.{bodyLength, recordLength, recordOf, encoded, chipNumberIn, tableNumberIn, bodyIn, noPlan, planBy, planOf, planIn}
 use Rattle.records.specs.Parts.{Refuses, PutsRecord}
-use Rattle.records.specs.Contracts.{wrongMark, bodyChecks, bodyPlanChecks, recordChecks, writeChecks, TakesBody, ReadsRecord, WritesRecord}
-use Rattle.bodies.proofs.Laws.{decoded-chip, decoded-table}
+use Rattle.records.specs.Contracts.{wrongMark, otherMark, countOut, bodyChecks, bodyPlanChecks, recordChecks, writeChecks, TakesBody, ReadsRecord, WritesRecord}
+use Rattle.bodies.proofs.Laws.{decoded-chip, decoded-table, decoded-points}
+use Rattle.records.proofs.Encoding.{body-of-table, goes-own}
 
 -- what an answer with a count says of the call
 pub told-of : (checks : List Check) (value n : ℕ) (r : Amount) → r ≡ amount.Of n → tellsAmount r ≡ told checks value
@@ -53,6 +58,7 @@ pub record WholeBody (number table : ℕ) (bytes : List ℕ) : Type 0 where
   pub chip : Chip
   pub named : chipOf number ≡ Known chip
   pub has : hasTable chip table ≡ true
+  pub count : countOut (layoutOf chip table) bytes ≡ false
   pub long : bodyLength chip ≤ length bytes
 
 pub whole-body : (number table : ℕ) (bytes : List ℕ) → first (bodyChecks number table bytes) ≡ 0 → WholeBody number table bytes
@@ -63,32 +69,73 @@ whole-body number table bytes h =
       chip = known .chip;
       named = known .named;
       has = not-false _ (rw (known .named) at (p .1 .0));
-      long = ltb-false (length bytes) (bodyLength (known .chip)) (rw (known .named) at (p .1 .1 .0));
+      count = rw (known .named) at (p .1 .1 .0);
+      long = ltb-false (length bytes) (bodyLength (known .chip)) (rw (known .named) at (p .1 .1 .1 .0));
     }
+
+-- what a plan out of a body names, whether its record carries a point count or not
+module _ (leading : Bool) (shape : Shape) (chip table : ℕ) (bytes : List ℕ) where
+  abbrev formed : Bool → Plan
+  formed counted = cond counted (decoded leading shape chip table (getD bytes 0 0) (drop 1 bytes)) (decoded leading shape chip table 0 bytes)
+
+  formed-chip : (counted : Bool) → formed counted .chip ≡ chip
+  formed-chip true = decoded-chip leading shape chip table (getD bytes 0 0) (drop 1 bytes)
+  formed-chip false = decoded-chip leading shape chip table 0 bytes
+
+  formed-table : (counted : Bool) → formed counted .table ≡ table
+  formed-table true = decoded-table leading shape chip table (getD bytes 0 0) (drop 1 bytes)
+  formed-table false = decoded-table leading shape chip table 0 bytes
+
+  formed-points : (counted : Bool) → formed counted .points ≡ cond counted (getD bytes 0 0) 0
+  formed-points true = decoded-points leading shape chip table (getD bytes 0 0) (drop 1 bytes)
+  formed-points false = decoded-points leading shape chip table 0 bytes
+
+pub by-chip : (l : Layout) (chip table : ℕ) (bytes : List ℕ) → planBy l chip table bytes .chip ≡ chip
+by-chip l chip table bytes = formed-chip (l .leading) (l .shape) chip table bytes (l .counted)
+
+pub by-table : (l : Layout) (chip table : ℕ) (bytes : List ℕ) → planBy l chip table bytes .table ≡ table
+by-table l chip table bytes = formed-table (l .leading) (l .shape) chip table bytes (l .counted)
+
+pub by-points : (l : Layout) (chip table : ℕ) (bytes : List ℕ) → planBy l chip table bytes .points ≡ cond (l .counted) (getD bytes 0 0) 0
+by-points l chip table bytes = formed-points (l .leading) (l .shape) chip table bytes (l .counted)
+
+-- a point count that is there and is not refused goes with the table
+counted-goes : (counted : Bool) (n : ℕ) (bytes : List ℕ) → cond counted 1 0 ≤ length bytes
+    → (ltb 0 (length bytes) && not (cond counted (eqb (getD bytes 0 0) n) true)) ≡ false → cond counted (eqb (getD bytes 0 0) n) true ≡ true
+counted-goes true n bytes h e = not-false _ (rw (lt-ltb 0 (length bytes) h) at e)
+counted-goes false n bytes h e = refl
 
 module _ (number table : ℕ) (bytes : List ℕ) (W : WholeBody number table bytes) where
   -- the plan in it
   abbrev pub bodyPlan : Plan
-  bodyPlan = decoded (layoutOf (W .chip) table .leading) (shapeOf (W .chip) table) number table bytes
+  bodyPlan = planBy (layoutOf (W .chip) table) number table bytes
 
   long-enough : ltb (length bytes) (bodyLength (W .chip)) ≡ false
   long-enough = le-ltb (length bytes) (bodyLength (W .chip)) (W .long)
 
   same-chip : chipOf (bodyPlan .chip) ≡ Known (W .chip)
-  same-chip = ap chipOf (decoded-chip (layoutOf (W .chip) table .leading) (shapeOf (W .chip) table) number table bytes) ∙ W .named
+  same-chip = ap chipOf (by-chip (layoutOf (W .chip) table) number table bytes) ∙ W .named
 
   same-table : bodyPlan .table ≡ table
-  same-table = decoded-table (layoutOf (W .chip) table .leading) (shapeOf (W .chip) table) number table bytes
+  same-table = by-table (layoutOf (W .chip) table) number table bytes
+
+  same-count : pointsPass (W .chip) bodyPlan ≡ true
+  unfolding pointsPass
+  same-count =
+      let l = layoutOf (W .chip) table in
+      ap₂ (λ (t n : ℕ). goesWith (layoutOf (W .chip) t) n) same-table (by-points l number table bytes)
+      ∙ goes-own l (getD bytes 0 0)
+      ∙ counted-goes (l .counted) (l .speeds) bytes (omega (arith, W .long, body-of-table (W .chip) table (W .has))) (W .count)
 
   -- no check refuses it, and what is left to check is what its plan is judged by, whatever is checked behind it
   pub whole-passed : first (bodyChecks number table bytes) ≡ 0
-  whole-passed = rw (W .named, W .has, long-enough)
+  whole-passed = rw (W .named, W .has, W .count, long-enough)
 
   pub whole-asked : first (askPlanChecks bodyPlan) ≡ first (bodyChecks number table bytes)
-  whole-asked = rw (W .named, same-chip, same-table, W .has, long-enough)
+  whole-asked = rw (W .named, same-chip, same-table, W .has, same-count, W .count, long-enough)
 
   pub whole-judged : (more : List Check) → first (planChecks bodyPlan ++ more) ≡ first (bodyPlanChecks number table bytes ++ more)
-  whole-judged more = rw (W .named, same-chip, same-table, W .has, long-enough)
+  whole-judged more = rw (W .named, same-chip, same-table, W .has, same-count, W .count, long-enough)
 
   pub plan-accepted : (n : ℕ) (plan : Plan) → n ≡ bodyLength (W .chip) → plan ≡ bodyPlan
       → TakesBody number table bytes (record { answer = amount.Of n; plan = plan })
@@ -134,22 +181,15 @@ record-refused bytes {refusal} R e =
       plan = R .plan ∙ when-refused refusal (planIn bytes) noPlan e;
     }
 
--- a mark is wrong where one of its two bytes is
-either : (a b : Bool) → not (a && b) ≡ (not a || not b)
-either true b = refl
-either false b = refl
-
-pub mark-wrong : (bytes : List ℕ) → wrongMark bytes ≡ (not (eqb (getD bytes 0 0) 0x43) || not (eqb (getD bytes 1 0) 0x50))
-mark-wrong bytes = either (eqb (getD bytes 0 0) 0x43) (eqb (getD bytes 1 0) 0x50)
-
--- a record with its header and its mark is checked by its chip, its table and its body
+-- a record with its header and its chip's mark is checked by its chip, its table and its body
 pub record Marked (bytes : List ℕ) : Type 0 where
   pub long : 4 ≤ length bytes
   pub mark : wrongMark bytes ≡ false
+  pub form : otherMark (getD bytes 1 0) (chipNumberIn bytes) (tableNumberIn bytes) ≡ false
 
 marked-checks : (bytes : List ℕ) → Marked bytes
     → first (recordChecks bytes) ≡ first (bodyPlanChecks (chipNumberIn bytes) (tableNumberIn bytes) (bodyIn bytes))
-marked-checks bytes M = rw (le-ltb (length bytes) 4 (M .long), M .mark)
+marked-checks bytes M = rw (le-ltb (length bytes) 4 (M .long), M .mark, M .form)
 
 -- one whose body is refused is refused as its body is
 pub record-cut : (bytes : List ℕ) (refusal : Refusal) (r : Found) → Marked bytes

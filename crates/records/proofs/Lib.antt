@@ -1,4 +1,5 @@
-pub mod Answers
-pub mod Unique
 pub mod Encoding
+pub mod Answers
+pub mod Lookups
+pub mod Unique
 pub mod RoundTrip

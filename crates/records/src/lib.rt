@@ -1,32 +1,35 @@
 // Plan records: read from bytes, and written to a lent buffer.
-use bodies::LONGEST;
+mod forms;
+
 use curves::NO_SLOPE;
 use curves::NO_STEPS;
 use curves::Plan;
 use images::Admitted;
 use pages::Chip;
 use pages::Fan;
+use pages::Layout;
 use pages::Named;
-use pages::Shape;
 use refusal::Amount;
 use refusal::Outcome;
 use refusal::Refusal;
-ghost use mathlib.Core.Path.{_≡_};
 ghost use Prim.Native.Nat.{_+_, _≤_};
+ghost use mathlib.Core.Path.{_≡_};
 ghost use mathlib.Core.Bool.{So};
-ghost use mathlib.Core.List.{_++_};
-ghost use lib.ListN.{length};
-ghost use Rattle.pages.specs.Rows.{column};
-ghost use Rattle.pages.specs.Sheets.{room};
+ghost use Rattle.pages.specs.Sheets.{longest};
 ghost use Rattle.pages.specs.Cards.{hasTable};
-ghost use Rattle.records.specs.Records.{header};
-ghost use Rattle.records.specs.Parts.{Refuses, front, PutsRecord};
+ghost use Rattle.records.specs.Parts.{Refuses, lookedAt, TakesBy, Headed, PutsRecord};
 ghost use Rattle.records.specs.Contracts.{TakesBody, ReadsRecord, WritesRecord};
 
 // What is read: the bytes used, and the plan, which is all zeros where the record is refused.
 pub struct Found {
     pub answer: Amount,
     pub plan: Plan,
+}
+
+// How a chip's fan table is laid out, or why there is none.
+pub enum Looked {
+    Laid(Layout),
+    Refused(Refusal),
 }
 
 fn refused(refusal: Refusal) -> Found
@@ -37,66 +40,47 @@ fn refused(refusal: Refusal) -> Found
         plan: Plan {
             chip: 0,
             table: 0,
+            points: 0,
             slope: NO_SLOPE,
             steps: NO_STEPS,
         },
     }
 }
 
-// The body of a slope that the bytes begin with, and zeros behind it.
-fn slope_body(bytes: &[u8]) -> [u8; LONGEST]
-    requires { ⌜ 9 ≤ length (now bytes) ⌝ }
-    ensures { λ r. ⌜ r ≡ column 14 (front 9 (now (bytes .entry))) ⌝ }
+fn look(chip: u8, table: u8) -> Looked
+    ensures { λ r. ⌜ r ≡ lookedAt chip table ⌝ }
 {
-    [
-        bytes[0],
-        bytes[1],
-        bytes[2],
-        bytes[3],
-        bytes[4],
-        bytes[5],
-        bytes[6],
-        bytes[7],
-        bytes[8],
-        0,
-        0,
-        0,
-        0,
-        0,
-    ]
+    let Named::Known(known) = cards::chip_of(chip) else {
+        return Looked::Refused(Refusal::NoSuchChip);
+    };
+    match cards::table_of(known, table) {
+        Fan::Laid(layout) => Looked::Laid(layout),
+        Fan::Nothing => Looked::Refused(Refusal::NoSuchTable),
+    }
 }
 
-// The body of steps.
-fn steps_body(bytes: &[u8]) -> [u8; LONGEST]
-    requires { ⌜ 14 ≤ length (now bytes) ⌝ }
-    ensures { λ r. ⌜ r ≡ column 14 (front 14 (now (bytes .entry))) ⌝ }
+// The plan of a table that is laid out so and of the bytes behind a header, the point count first where the record carries one.
+fn plan_by(layout: Layout, chip: u8, table: u8, bytes: &[u8]) -> Found
+    requires { ⌜ layout .settings + layout .speeds ≤ longest ⌝ }
+    ensures { λ r. ⌜ TakesBy layout chip table (now (bytes .entry)) r ⌝ }
 {
-    [
-        bytes[0],
-        bytes[1],
-        bytes[2],
-        bytes[3],
-        bytes[4],
-        bytes[5],
-        bytes[6],
-        bytes[7],
-        bytes[8],
-        bytes[9],
-        bytes[10],
-        bytes[11],
-        bytes[12],
-        bytes[13],
-    ]
-}
-
-// The body of a shape.
-fn body_in(shape: Shape, bytes: &[u8]) -> [u8; LONGEST]
-    requires { ⌜ room shape .0 + room shape .1 ≤ length (now bytes) ⌝ }
-    ensures { λ r. ⌜ r ≡ column 14 (front (room shape .0 + room shape .1) (now (bytes .entry))) ⌝ }
-{
-    match shape {
-        Shape::Slope(_) => slope_body(bytes),
-        Shape::Steps => steps_body(bytes),
+    if forms::is_count_out(layout, bytes) {
+        return refused(Refusal::FormNotOfChip);
+    }
+    let length = forms::body_size(layout);
+    if bytes.len() < length {
+        return refused(Refusal::BodyCutShort);
+    }
+    let shape = layout.shape;
+    if layout.counted {
+        return Found {
+            answer: Amount::Of(length),
+            plan: bodies::plan_of(shape, layout.leading, chip, table, bytes[0], &bytes[1..]),
+        };
+    }
+    Found {
+        answer: Amount::Of(length),
+        plan: bodies::plan_of(shape, layout.leading, chip, table, 0, bytes),
     }
 }
 
@@ -104,34 +88,21 @@ fn body_in(shape: Shape, bytes: &[u8]) -> [u8; LONGEST]
 pub fn plan_from(chip: u8, table: u8, bytes: &[u8]) -> Found
     ensures { λ r. ⌜ TakesBody chip table (now (bytes .entry)) r ⌝ }
 {
-    let Named::Known(known) = cards::chip_of(chip) else {
-        return refused(Refusal::NoSuchChip);
-    };
-    let Fan::Laid(layout) = cards::table_of(known, table) else {
-        return refused(Refusal::NoSuchTable);
-    };
-    let length = layout.settings + layout.speeds;
-    if bytes.len() < length {
-        return refused(Refusal::BodyCutShort);
-    }
-    let shape = layout.shape;
-    Found {
-        answer: Amount::Of(length),
-        plan: bodies::plan_of(shape, layout.leading, chip, table, body_in(shape, bytes)),
+    match look(chip, table) {
+        Looked::Refused(refusal) => refused(refusal),
+        Looked::Laid(layout) => plan_by(layout, chip, table, bytes),
     }
 }
 
-// The plan of the record that the bytes begin with, and how many of them it takes.
-pub fn read(bytes: &[u8]) -> Found
+// The plan of a record whose table is laid out so, with its mark, and how many of the bytes it takes.
+fn read_by(layout: Layout, bytes: &[u8]) -> Found
+    requires { ⌜ Headed layout (now bytes) ⌝ }
     ensures { λ r. ⌜ ReadsRecord (now (bytes .entry)) r ⌝ }
 {
-    if bytes.len() < 4 {
-        return refused(Refusal::HeaderCutShort);
+    if bytes[1] != forms::mark_of(layout.counted) {
+        return refused(Refusal::FormNotOfChip);
     }
-    if (bytes[0] != 0x43) | (bytes[1] != 0x50) {
-        return refused(Refusal::WrongMark);
-    }
-    let found = plan_from(bytes[2], bytes[3], &bytes[4..]);
+    let found = plan_by(layout, bytes[2], bytes[3], &bytes[4..]);
     let answer = found.answer;
     let Amount::Of(length) = answer else {
         return found;
@@ -146,33 +117,20 @@ pub fn read(bytes: &[u8]) -> Found
     }
 }
 
-// No record is longer.
-const LONGEST_RECORD: usize = 18;
-
-// A plan's record: the mark, chip, table, then the body, with zeros behind it.
-fn record_of(chip: u8, table: u8, body: [u8; LONGEST]) -> [u8; LONGEST_RECORD]
-    ensures { λ r. ⌜ r ≡ header chip table ++ body ⌝ }
+// The plan of the record that the bytes begin with, and how many of them it takes.
+pub fn read(bytes: &[u8]) -> Found
+    ensures { λ r. ⌜ ReadsRecord (now (bytes .entry)) r ⌝ }
 {
-    [
-        0x43,
-        0x50,
-        chip,
-        table,
-        body[0],
-        body[1],
-        body[2],
-        body[3],
-        body[4],
-        body[5],
-        body[6],
-        body[7],
-        body[8],
-        body[9],
-        body[10],
-        body[11],
-        body[12],
-        body[13],
-    ]
+    if bytes.len() < 4 {
+        return refused(Refusal::HeaderCutShort);
+    }
+    if !forms::is_mark(bytes[0], bytes[1]) {
+        return refused(Refusal::WrongMark);
+    }
+    match look(bytes[2], bytes[3]) {
+        Looked::Refused(refusal) => refused(refusal),
+        Looked::Laid(layout) => read_by(layout, bytes),
+    }
 }
 
 // Writes the record of a chip's plan to the front of the buffer.
@@ -181,18 +139,15 @@ fn put(chip: Chip, plan: Plan, out: &mut [u8]) -> Amount
     ensures { λ r. ⌜ PutsRecord chip plan (now (out .entry)) r (now (out .exit)) ⌝ }
 {
     let layout = cards::layout_of(chip, plan.table);
-    let length = 4 + layout.settings + layout.speeds;
+    let length = 4 + forms::body_size(layout);
     if out.len() < length {
         return Amount::Refused(Refusal::OutputTooShort);
     }
+    let counted = layout.counted;
     let shape = layout.shape;
-    let bytes = record_of(
-        plan.chip,
-        plan.table,
-        bodies::body_of(shape, layout.leading, plan),
-    );
+    let body = bodies::body_of(shape, layout.leading, plan);
     for at in 0..length {
-        out[at] = bytes[at];
+        out[at] = forms::byte_at(counted, plan.chip, plan.table, plan.points, body, at);
     }
     Amount::Of(length)
 }

@@ -50,7 +50,7 @@ returns c =
     let ts = ap (λ (n : ℕ). take n (a .temperatures)) count ∙ take-room (a .points) mostPoints (a .temperatures) (search needs) in
     let ds = ap (λ (n : ℕ). take n (a .duties)) count ∙ take-room (a .points) mostPoints (a .duties) (search needs) in
     let same =
-        ap₂ (λ (xs ys : List ℕ). cond (a .leading) (a .critical ∷ xs) (xs ++ (a .critical ∷ [])) ++ ys) ts ds in
+    ap₂ (λ (xs ys : List ℕ). cond (a .leading) (a .critical ∷ xs) (xs ++ (a .critical ∷ [])) ++ ys) ts ds in
     filled-all (c .before .loop .inv .1) (c .loop-test .left) (column longest (λ k. getD (slopeBody (a .leading) (a .points) (a .temperatures) (a .critical) (a .duties)) k 0))
     (column-length longest _) (λ k h. column-at longest _ k h ∙ ap (λ (l : List ℕ). getD l k 0) (sym same))
 

@@ -1,25 +1,33 @@
+-- `records::forms::is_count_out` meets its contract: where no byte is there, none is out.
+-- Assumes nothing.
+use native.Mathlib.Omega.{arith}
+use Prim.Native.Nat.{_<_, _≤_}
+use mathlib.Core.Path.{ap}
+use mathlib.Core.Bool.{not}
+use lib.ListN.{length}
+use borrow.Author.Tests.{lt-ltb, le-ltb}
 use borrow.Author.Needs.{needs}
 use Rattle.records.proofs.forms.is_count_out.Statement.{statement}
 use Rattle.records.proofs.forms.is_count_out.Tie as tie
-use Rattle.records.proofs.forms.is_count_out.Reads as reads
-use Rattle.records.proofs.forms.is_count_out.Lts as lts
-use Rattle.pages.proofs.goes_with.Reads as goes-with-reads
 
--- src/forms.rt:33:9
 returns : tie.Need-returns
-returns c = ?
+returns c =
+    let bytes = c .before .before .args .bytes .now in
+    let none : length bytes ≤ 0 = omega (arith, c .if1 .taken) in
+    rw (le-ltb 0 (length bytes) none)
 
--- src/forms.rt:35:31
 shared-slice-read-goes-with : tie.Need-shared-slice-read-goes-with
 shared-slice-read-goes-with c = search needs
 
--- src/forms.rt:35:6
 goes-with-requires : tie.Need-goes-with-requires
 goes-with-requires c κs = search needs
 
--- src/forms.rt:29:1
 returns-2 : tie.Need-returns-2
-returns-2 c = ?
+returns-2 c =
+    let l = c .before .before in
+    let bytes = l .before .before .args .bytes .now in
+    let some : 0 < length bytes = omega (arith, l .if1 .left) in
+    rw (lt-ltb 0 (length bytes) some) (ap not (c .goes-with .ensures .answer))
 
 pub is-count-out-spec : {M : Type 1} → statement M
 is-count-out-spec =
