@@ -35,6 +35,7 @@ use Rattle.pages.specs.Sheets.{goesWith}
 use Rattle.pages.specs.Cards.{chipOf, whenKnown, hasTable, layoutOf}
 use Rattle.pages.proofs.Numbers.{chip-known}
 use Rattle.curves.specs.declared.Plan.{Plan}
+use Rattle.curves.specs.Values.{Sized}
 use Rattle.bodies.specs.Bodies.{decoded}
 use Rattle.plans.specs.Plans.{pointsPass}
 use Rattle.plans.specs.Contracts.{askPlanChecks, orderChecks, planChecks}
@@ -42,7 +43,7 @@ use Rattle.records.specs.declared.Found.{Found}
 use Rattle.records.specs.Records.{bodyLength, recordLength, recordOf, encoded, chipNumberIn, tableNumberIn, bodyIn, noPlan, planBy, planOf, planIn}
 use Rattle.records.specs.Parts.{Refuses, PutsRecord}
 use Rattle.records.specs.Contracts.{wrongMark, otherMark, countOut, bodyChecks, bodyPlanChecks, recordChecks, writeChecks, TakesBody, ReadsRecord, WritesRecord}
-use Rattle.bodies.proofs.Laws.{decoded-chip, decoded-table, decoded-points}
+use Rattle.bodies.proofs.Laws.{decoded-chip, decoded-table, decoded-points, decoded-sized}
 use Rattle.records.proofs.Encoding.{body-of-table, goes-own}
 
 -- what an answer with a count says of the call
@@ -90,6 +91,10 @@ module _ (leading : Bool) (shape : Shape) (chip table : ℕ) (bytes : List ℕ) 
   formed-points true = decoded-points leading shape chip table (getD bytes 0 0) (drop 1 bytes)
   formed-points false = decoded-points leading shape chip table 0 bytes
 
+  formed-sized : (counted : Bool) → Sized (formed counted)
+  formed-sized true = decoded-sized leading shape chip table (getD bytes 0 0) (drop 1 bytes)
+  formed-sized false = decoded-sized leading shape chip table 0 bytes
+
 pub by-chip : (l : Layout) (chip table : ℕ) (bytes : List ℕ) → planBy l chip table bytes .chip ≡ chip
 by-chip l chip table bytes = formed-chip (l .leading) (l .shape) chip table bytes (l .counted)
 
@@ -98,6 +103,9 @@ by-table l chip table bytes = formed-table (l .leading) (l .shape) chip table by
 
 pub by-points : (l : Layout) (chip table : ℕ) (bytes : List ℕ) → planBy l chip table bytes .points ≡ cond (l .counted) (getD bytes 0 0) 0
 by-points l chip table bytes = formed-points (l .leading) (l .shape) chip table bytes (l .counted)
+
+pub by-sized : (l : Layout) (chip table : ℕ) (bytes : List ℕ) → Sized (planBy l chip table bytes)
+by-sized l chip table bytes = formed-sized (l .leading) (l .shape) chip table bytes (l .counted)
 
 -- a point count that is there and is not refused goes with the table
 counted-goes : (counted : Bool) (n : ℕ) (bytes : List ℕ) → cond counted 1 0 ≤ length bytes

@@ -1,12 +1,12 @@
 -- No text is longer than 40,979 bytes, so that a buffer of that length takes the text of any input: a record's text is at most ten times as
--- long as the record, and the last line has at most 19 bytes.
+-- long as the record, and what stands behind the last record adds at most 19 bytes to ten for each byte that is left.
 -- Assumes nothing.
 use Prim.Native.Nat.{ℕ, zero, suc, _+_, _*_, _≤_, _<_}
 use native.Mathlib.Omega.{arith}
 use mathlib.Core.Path.{_≡_, refl}
 use mathlib.Core.Bool.{Bool, true, false, So, cond, _&&_, and-eq-true-iff}
 use mathlib.Core.List.{List, [], _∷_, _++_}
-use borrow.Author.Tests.{ltb-true, ltb-false, eqb-true}
+use borrow.Author.Tests.{ltb-true, ltb-false, eqb-true, eqb-false}
 use lib.Dec.{eqb, ltb}
 use lib.ListN.{length, drop, length-append, length-drop}
 use Rattle.refusal.specs.Checks.{Check, first}
@@ -23,9 +23,9 @@ end-short : (plans : ℕ) → plans < 1000 → length (endLine plans) ≤ 8
 unfolding endLine
 end-short plans h = simp length-append (omega (arith, three-digits plans h))
 
-refused-short : (number refusal : ℕ) → number < 1000 → refusal < 10 → length (refusedLine number refusal) ≤ 19
+refused-short : (number refusal : ℕ) → number < 1000 → refusal < 100 → length (refusedLine number refusal) ≤ 20
 unfolding refusedLine
-refused-short number refusal h l = simp length-append (omega (arith, three-digits number h, one-digit refusal l))
+refused-short number refusal h l = simp length-append (omega (arith, three-digits number h, two-digits refusal l))
 
 header-short : (number chip table writes : ℕ) → number < 1000 → chip < 10 → table < 100 → writes < 100
     → length (headerLine number chip table writes) ≤ 35
@@ -59,23 +59,23 @@ first-below limit ((applies, number) ∷ checks) t = by-check applies (first-bel
     by-check true h = ltb-true number limit (both .0)
     by-check false h = h
 
-refusal-short : (bytes : List ℕ) → refusalIn bytes < 10
+refusal-short : (bytes : List ℕ) → refusalIn bytes < 100
 unfolding refusalIn
-refusal-short bytes = first-below 10 (recordChecks bytes) refl
+refusal-short bytes = first-below 100 (recordChecks bytes) refl
 
--- each plan used at least 13 bytes, so that its number has at most three digits
+-- each plan used at least 9 bytes, so that its number has at most three digits
 abbrev Short : ℕ → ℕ → List ℕ → Type 0
-Short turns plans bytes = 13 * plans + length bytes ≤ 4096 → length (textFrom turns plans bytes) ≤ 10 * length bytes + 19
+Short turns plans bytes = 9 * plans + length bytes ≤ 4096 → length (textFrom turns plans bytes) ≤ 10 * length bytes + 19
 
 pub text-from-short : (turns plans : ℕ) (bytes : List ℕ) → Short turns plans bytes
 text-from-short zero plans bytes h = omega (arith, end-short plans (omega arith))
 text-from-short (suc turns) plans bytes h =
-    by-left (text-from-short turns (plans + 1) (drop (usedIn bytes) bytes)) (eqb (length bytes) 0)
+    by-left (text-from-short turns (plans + 1) (drop (usedIn bytes) bytes)) (eqb (length bytes) 0) refl
   where
-    by-check : Short turns (plans + 1) (drop (usedIn bytes) bytes) → (good : Bool) → eqb (refusalIn bytes) 0 ≡ good
+    by-check : Short turns (plans + 1) (drop (usedIn bytes) bytes) → 1 ≤ length bytes → (good : Bool) → eqb (refusalIn bytes) 0 ≡ good
         → length (cond good (planText (plans + 1) (planIn bytes) ++ textFrom turns (plans + 1) (drop (usedIn bytes) bytes)) (refusedLine (plans + 1) (refusalIn bytes)))
         ≤ 10 * length bytes + 19
-    by-check go true t =
+    by-check go some true t =
         let a = accepted bytes (eqb-true (refusalIn bytes) 0 t) in
         let left = length-drop (usedIn bytes) bytes in
         let more = go (omega (arith, a .whole, a .least)) in
@@ -85,13 +85,15 @@ text-from-short (suc turns) plans bytes h =
           length-append (planText (plans + 1) (planIn bytes)) (textFrom turns (plans + 1) (drop (usedIn bytes) bytes)),
           plan-short (plans + 1) bytes (omega arith) a,
         )
-    by-check go false t = omega (arith, refused-short (plans + 1) (refusalIn bytes) (omega arith) (refusal-short bytes))
+    by-check go some false t = omega (arith, refused-short (plans + 1) (refusalIn bytes) (omega arith) (refusal-short bytes))
 
-    by-left : Short turns (plans + 1) (drop (usedIn bytes) bytes) → (none : Bool)
+    by-left : Short turns (plans + 1) (drop (usedIn bytes) bytes) → (none : Bool) → eqb (length bytes) 0 ≡ none
         → length (cond none (endLine plans) (cond (eqb (refusalIn bytes) 0) (planText (plans + 1) (planIn bytes) ++ textFrom turns (plans + 1) (drop (usedIn bytes) bytes)) (refusedLine (plans + 1) (refusalIn bytes))))
         ≤ 10 * length bytes + 19
-    by-left go true = omega (arith, end-short plans (omega arith))
-    by-left go false = by-check go (eqb (refusalIn bytes) 0) refl
+    by-left go true t = omega (arith, end-short plans (omega arith))
+    by-left go false t =
+        let some : 1 ≤ length bytes = omega (arith, eqb-false (length bytes) 0 t) in
+        by-check go some (eqb (refusalIn bytes) 0) refl
 
 pub text-short : (input : List ℕ) → length (textOf input) ≤ 40979
 unfolding textOf

@@ -1,6 +1,6 @@
--- An accepted plan's script is never refused a buffer of 48 bytes, and its bytes show its pairs: so a header and those lines are the plan's text.
+-- An accepted plan's script is never refused a buffer of 50 bytes, and its bytes show its pairs: so a header and those lines are the plan's text.
 -- Assumes nothing.
-use Prim.Native.Nat.{ℕ, _+_, _≤_}
+use Prim.Native.Nat.{ℕ, _+_, _*_, _≤_}
 use native.Mathlib.Omega.{arith}
 use mathlib.Core.Path.{_≡_, sym, ap, ap₂, _∙_}
 use mathlib.Core.List.{List, _++_}
@@ -10,6 +10,7 @@ use Rattle.refusal.specs.declared.Refusal.{Refusal}
 use Rattle.refusal.proofs.Numbers.{not-accepted}
 use Rattle.refusal.specs.declared.Amount.{Amount}
 use Rattle.refusal.specs.declared.Amount.the-variants as amount
+use Rattle.pages.specs.Sheets.{mostWrites}
 use Rattle.curves.specs.declared.Plan.{Plan}
 use Rattle.scripts.specs.Scripts.{Pair, pairsIn, scriptFor}
 use Rattle.scripts.specs.Contracts.{Scripts}
@@ -18,7 +19,7 @@ use Rattle.translation.specs.Text.{headerLine, writeLines, planText}
 use Rattle.translation.specs.Parts.{InRange, Adds, Printable}
 use Rattle.translation.proofs.Adding.{adds-then, adds-as}
 
-module _ {plan : Plan} {old bytes : List ℕ} {r : Amount} (a : Printable plan) (room : length old ≡ 48) (s : Scripts plan old r bytes) where
+module _ {plan : Plan} {old bytes : List ℕ} {r : Amount} (a : Printable plan) (room : length old ≡ 2 * mostWrites) (s : Scripts plan old r bytes) where
   pub never-refused : (q : Refusal) → r ≡ amount.Refused q → ⊥
   never-refused q e = not-accepted q (sym (refused-by-plan (λ _. a .writes) room s q e ∙ a .checks))
 

@@ -50,7 +50,7 @@ pub record Walked (input old out : List ℕ) (at from plans : ℕ) : Type 0 wher
   pub adds : Adds made old 0 at out
   pub text : made ++ rest plans (drop from input) ≡ rest 0 input
   pub within : from ≤ length input
-  pub few : 13 * plans ≤ from
+  pub few : 9 * plans ≤ from
 
 pub walked-none : (input old : List ℕ) → Walked input old old 0 0 0
 walked-none input old = record { made = []; adds = adds-none old 0; text = refl; within = omega arith; few = omega arith }
@@ -123,7 +123,7 @@ module _ {input old out : List ℕ} {at from plans : ℕ} (short : length input 
       pub plan-within : InRange at (planText (plans + 1) (found .plan))
       plan-within = room (planText (plans + 1) (found .plan)) (rest (plans + 1) (drop (from + n) input)) goes-on
 
-      pub next-within : (from + n ≤ length input) × (13 ≤ n)
+      pub next-within : (from + n ≤ length input) × (9 ≤ n)
       next-within =
           let same = read-used n reads e in
           (omega (arith, same, good .whole, length-drop from input), omega (arith, same, good .least))

@@ -6,6 +6,7 @@ use mathlib.Core.List.{List}
 use lib.ListN.{length}
 use lib.Seq.{sets}
 use Rattle.refusal.specs.Checks.{first}
+use Rattle.pages.specs.Sheets.{mostWrites}
 use Rattle.curves.specs.declared.Plan.{Plan}
 use Rattle.plans.specs.Contracts.{planChecks}
 use Rattle.scripts.specs.Scripts.{scriptFor}
@@ -19,7 +20,7 @@ pub record Adds (text old : List ℕ) (at r : ℕ) (new : List ℕ) : Type 0 whe
   pub next : r ≡ at + length text
   pub bytes : new ≡ sets old at text
 
--- no check refuses the plan, and its script has at most 24 writes
+-- no check refuses the plan, and its script has no more writes than any
 pub record Printable (plan : Plan) : Type 0 where
   pub checks : first (planChecks plan) ≡ 0
-  pub writes : length (scriptFor plan) ≤ 24
+  pub writes : length (scriptFor plan) ≤ mostWrites

@@ -14,13 +14,13 @@ ghost use Rattle.translation.specs.Text.{planText, textFrom, textOf};
 ghost use Rattle.translation.specs.Contracts.{Translates};
 ghost use Rattle.translation.specs.Parts.{InRange, Adds, Printable};
 
-// An accepted plan's header and script. No script has more than 24 writes, so 48 bytes hold each, and none is refused.
+// An accepted plan's header and script. No script has more than 25 writes, so 50 bytes hold each, and none is refused.
 fn plan_lines(out: &mut [u8], at: usize, number: usize, plan: Plan) -> usize
     requires { ⌜ Printable plan ⌝ }
     requires { ⌜ InRange at (planText number plan) ⌝ }
     ensures { λ r. ⌜ Adds (planText number plan) (now (out .entry)) at r (now (out .exit)) ⌝ }
 {
-    let mut pairs = [0u8; 48];
+    let mut pairs = [0u8; 50];
     let Amount::Of(writes) = scripts::script(plan, &mut pairs) else {
         return at;
     };
