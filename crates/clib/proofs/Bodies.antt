@@ -21,9 +21,9 @@ use Rattle.bodies.specs.Bodies.{decoded}
 use Rattle.plans.specs.Contracts.{askPlanChecks, orderChecks, planChecks, AsksPlan, AsksPlanBy}
 use Rattle.records.specs.declared.Found.{Found}
 use Rattle.curves.specs.Values.{Sized}
-use Rattle.records.specs.Records.{encoded, planOf}
+use Rattle.records.specs.Records.{encoded, planBy, planOf}
 use Rattle.records.specs.Contracts.{bodyChecks, bodyPlanChecks, writeChecks, TakesBody, WritesRecord, WritesRecordBy}
-use Rattle.records.proofs.Answers.{whole-asked, whole-judged, plan-taken}
+use Rattle.records.proofs.Answers.{by-sized, whole-asked, whole-judged, plan-taken}
 use Rattle.bodies.proofs.Laws.{decoded-sized}
 use Rattle.scripts.specs.Scripts.{scriptFor}
 use Rattle.scripts.specs.Contracts.{scriptChecks, Scripts, ScriptsBy}
@@ -73,12 +73,10 @@ pub crossed : (chip table : ℕ) (body : List ℕ) (n : ℕ) (found : Found) →
 crossed chip table body n found P e =
     let T = plan-taken chip table body n found P e in
     let W = T .whole in
-    let shape = shapeOf (W .chip) table in
-    let leading = layoutOf (W .chip) table .leading in
-    let in-body : planOf chip table body ≡ decoded leading shape chip table body = rw (W .named) in
+    let in-body : planOf chip table body ≡ planBy (layoutOf (W .chip) table) chip table body = rw (W .named) in
     record {
       same = T .plan-in ∙ sym in-body;
-      sized = rw (T .plan-in) (decoded-sized leading shape chip table body);
+      sized = rw (T .plan-in) (by-sized (layoutOf (W .chip) table) chip table body);
       asks = ap (λ (p : Plan). first (askPlanChecks p)) in-body ∙ whole-asked chip table body W;
       checks = λ more. ap (λ (p : Plan). first (planChecks p ++ more)) in-body ∙ whole-judged chip table body W more;
     }

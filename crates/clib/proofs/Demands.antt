@@ -18,7 +18,7 @@ use Rattle.pages.specs.declared.Fan.{Fan}
 use Rattle.pages.specs.declared.Layout.{Layout}
 use Rattle.pages.specs.Rows.{masksIn, requiredIn, column, inOneRow, standsAt}
 use Rattle.pages.specs.Banks.{oneBank, standsIn}
-use Rattle.pages.specs.Sheets.{sizesIn, missing, layout, selectorIn}
+use Rattle.pages.specs.Sheets.{mostPoints, longest, sizesIn, missing, layout, goesWith, selectorIn}
 use Rattle.pages.specs.Cards.{sheetOf, banksOf, chipOf, chipNumber, unknown, hasTable, rowOf, layoutOf, groundOf, tellsNamed, tellsFan}
 use Rattle.pages.specs.Contracts.{Names, Lays}
 use Rattle.cards.proofs.Told.{names-told, lays-told}
@@ -99,6 +99,7 @@ demand-1 =
       ground-of = λ chip number. record { answer = groundOf chip number; kept = record { answer = refl } };
       selector-of = λ chip. record { answer = selectorIn (sheetOf chip); kept = record { answer = refl } };
       position-of = λ chip bank address. record { answer = standsIn (banksOf chip) bank address; kept = record { answer = refl } };
+      goes-with = λ layout points. record { answer = goesWith layout points; kept = record { answer = refl } };
       one-row = λ first settings speeds masks. record { answer = inOneRow first settings speeds masks; kept = record { answer = refl } };
       register-at = λ ground k. record { answer = standsAt ground k; kept = record { answer = refl } };
       admit = λ chip size r p. told-answered 0 chip _ (admits-told p);
@@ -119,12 +120,14 @@ demand-1 =
       watch-acknowledge = λ w. record { answer = acknowledged w; kept = record { answer = refl } };
       watch-output = λ w. record { answer = shown (w .behaviour) (w .hot) (w .pending); kept = record { answer = refl } };
       watch-run = λ w samples high hysteresis. record { answer = run w (recorded high hysteresis samples); kept = record { answer = refl } };
+      count-of = λ points. record { answer = min points mostPoints; kept = record { answer = refl } };
       speed-of = λ shape plan t. record { answer = asks shape (planned shape plan) t; kept = record { answer = refl } };
       temperatures-in-order = λ shape plan. record { answer = temperaturesInOrder shape plan; kept = record { answer = refl } };
       speeds-in-order = λ shape plan. record { answer = speedsInOrder shape plan; kept = record { answer = refl } };
       full-of = λ shape. record { answer = fullOf shape; kept = record { answer = refl } };
-      plan-of = λ leading shape chip table bytes. record { answer = decoded leading shape chip table bytes; kept = record { answer = refl } };
-      body-of = λ leading shape plan. record { answer = column 14 (λ k. getD (bodyOf leading shape plan) k 0); kept = record { answer = refl } };
+      plan-of = λ leading shape chip table points bytes.
+          record { answer = decoded leading shape chip table points bytes; kept = record { answer = refl } };
+      body-of = λ leading shape plan. record { answer = column longest (λ k. getD (bodyOf leading shape plan) k 0); kept = record { answer = refl } };
       accept = accept-answered;
       judge = λ plan r p. verdict-answered r _ (p .answer);
       asked-of-plan = λ plan t r p. told-answered 0 _ _ (p .answer);

@@ -19,11 +19,16 @@ use Rattle.pages.specs.Nct7904dBank1 as bank1
 use Rattle.pages.specs.Nct7904dBank2 as bank2
 use Rattle.pages.specs.Nct7904dBank3 as bank3
 use Rattle.pages.specs.Nct7904dBank4 as bank4
+use Rattle.pages.specs.Rows.{column}
+use Rattle.pages.specs.W83793g as w83793g
+use Rattle.pages.specs.W83793gBank0 as bankA
+use Rattle.pages.specs.W83793gBank1 as bankB
+use Rattle.pages.specs.W83793gBank2 as bankC
 use Rattle.pages.specs.Identity.{confirmed}
 use Rattle.curves.specs.declared.Plan.{Plan}
 use Rattle.curves.specs.Curves as curves
 use Rattle.curves.specs.Planned.{asks}
-use Rattle.plans.specs.Plans.{held, temperaturesPass, speedsPass}
+use Rattle.plans.specs.Plans.{held, pointsPass, temperaturesPass, speedsPass}
 use Rattle.plans.specs.Contracts.{askImageChecks}
 use Rattle.images.specs.Bytes.{selected, position, seen}
 use Rattle.images.specs.Contracts.{imageChecks}
@@ -156,6 +161,14 @@ imageOf2 = replicate 0x5A 0 ++ (0x02 ∷ 0x04 ∷ 0x00 ∷ 0x19 ∷ 0x34 ∷ rep
 abbrev imageOf4 : ℕ → List ℕ
 imageOf4 select = replicate 0xFF 0x11 ++ (select ∷ replicate 1024 0x22)
 
+-- bank 0 of chip 5 holds 11h but for its identity, and the others 22h
+abbrev imageOf5 : ℕ → ℕ → List ℕ
+imageOf5 select version = select ∷ (replicate 12 0x11 ++ (0x5C ∷ 0x7B ∷ version ∷ (replicate 240 0x11 ++ replicate 512 0x22)))
+
+-- seven temperatures, critical, seven duties
+abbrev bodyOf5 : List ℕ
+bodyOf5 = 0x1E ∷ 0x23 ∷ 0x28 ∷ 0x2D ∷ 0x32 ∷ 0x37 ∷ 0x3C ∷ 0x50 ∷ 0x08 ∷ 0x0C ∷ 0x10 ∷ 0x18 ∷ 0x20 ∷ 0x30 ∷ 0x38 ∷ []
+
 unfoldable pub figures : List Figure
 figures =
     -- "YK_DEFAULT = 0, YK_ONE_TIME = 1, YK_COMPARATOR = 2", "Any other number counts as comparator": a new watch at 81 degrees, then a hot one that was
@@ -227,9 +240,9 @@ figures =
     ∷ (inputMicrovolts 0x40 0x19 0x06, 256 * 412000)
     ∷ (inputMicrovolts 0x5C 0x19 0x06, 256 * 1236000)
     ∷ (inputMicrovolts 0x62 0x19 0x06, 0)
-    -- "the byte"; 5 is no chip; chip 4's image is longer; "Chip 3 is never confirmed"
+    -- "the byte"; 6 is no chip; chip 4's image is longer; "Chip 3 is never confirmed"
     ∷ (read 1 image 0, 0x5A00)
-    ∷ (read 5 image 0, 0x0003)
+    ∷ (read 6 image 0, 0x0003)
     ∷ (read 4 image 0, 0x0008)
     -- bits 2 to 0 of FFh select bank 3, and 7Ah and FFh are seen there; with code 6 only they answer
     ∷ (read 4 (imageOf4 0x83) 0x20, 0x2200)
@@ -237,8 +250,18 @@ figures =
     ∷ (read 4 (imageOf4 0x83) 0xFF, 0x8300)
     ∷ (read 4 (imageOf4 0x86) 0x20, 0x0000)
     ∷ (read 4 (imageOf4 0x86) 0x7A, 0x1100)
+    -- bits 2 to 0 of 00h select bank 2; the vendor byte is the high one in every bank, whatever bit 7 of 00h holds; with code 5 only such registers answer
+    ∷ (read 5 (imageOf5 0x82 0x11) 0x20, 0x2200)
+    ∷ (read 5 (imageOf5 0x02 0x11) 0x0D, 0x5C00)
+    ∷ (read 5 (imageOf5 0x85 0x11) 0x20, 0x0000)
+    ∷ (read 5 (imageOf5 0x85 0x11) 0x0E, 0x7B00)
     ∷ (identity 2 imageOf2, 0x0000)
     ∷ (identity 3 image, 0x000A)
+    -- "0Fh is 11h or 12h"
+    ∷ (identity 5 (imageOf5 0x80 0x11), 0x0000)
+    ∷ (identity 5 (imageOf5 0x02 0x12), 0x0000)
+    ∷ (identity 5 (imageOf5 0x80 0x13), 0x000A)
+    ∷ (identity 5 (imageOf5 0x80 0x10), 0x000A)
     -- "used + 256 * chip + 65536 * table": the paper's record, one of chip 2, and one without its mark
     ∷ (readRecord (0x43 ∷ 0x50 ∷ 1 ∷ 3 ∷ 0x1E ∷ 0x28 ∷ 0x32 ∷ 0x37 ∷ 0x3C ∷ 0x8C ∷ 0xAA ∷ 0xC8 ∷ 0xE6 ∷ []), 0x03010D00)
     ∷ (readRecord (0x43 ∷ 0x50 ∷ 2 ∷ 1 ∷ 0x3C ∷ 0x32 ∷ 0x28 ∷ 0x1E ∷ 1 ∷ 0xFF ∷ 2 ∷ 0 ∷ 3 ∷ 0 ∷ 8 ∷ 0 ∷ 0xFF ∷ 0xFF ∷ []), 0x01021200)
@@ -246,15 +269,25 @@ figures =
     -- of chip 4, whose body has critical first: in order, and with the two exchanged
     ∷ (readRecord (0x43 ∷ 0x50 ∷ 4 ∷ 10 ∷ 0x7F ∷ 0xEC ∷ 0x00 ∷ 0x14 ∷ 0x32 ∷ 0x00 ∷ 0x40 ∷ 0x80 ∷ 0xFF ∷ []), 0x0A040D00)
     ∷ (readRecord (0x43 ∷ 0x50 ∷ 4 ∷ 10 ∷ 0xEC ∷ 0x00 ∷ 0x14 ∷ 0x32 ∷ 0x7F ∷ 0x00 ∷ 0x40 ∷ 0x80 ∷ 0xFF ∷ []), 0x00000006)
+    -- of chip 5, with its point count; in the old form, with one point more, with none, and with an old chip's number
+    ∷ (readRecord (0x43 ∷ 0x51 ∷ 5 ∷ 1 ∷ 7 ∷ bodyOf5), 0x01051400)
+    ∷ (readRecord (0x43 ∷ 0x50 ∷ 5 ∷ 1 ∷ 7 ∷ bodyOf5), 0x00000010)
+    ∷ (readRecord (0x43 ∷ 0x51 ∷ 5 ∷ 1 ∷ 8 ∷ bodyOf5), 0x00000010)
+    ∷ (readRecord (0x43 ∷ 0x51 ∷ 5 ∷ 1 ∷ []), 0x00000005)
+    ∷ (readRecord (0x43 ∷ 0x51 ∷ 1 ∷ 1 ∷ bodyOf5), 0x00000010)
+    ∷ (readRecord (0x43 ∷ 0x50 ∷ 5 ∷ 7 ∷ []), 0x00000004)
     -- "the duty or count"; "chip 3 has no fan table"
     ∷ (askedOfImage 1 1 image 0x5A, 0xFF00)
     ∷ (askedOfImage 2 1 image 0x5B, 0x5A5A00)
     ∷ (askedOfImage 3 1 image 0x5A, 0x0004)
+    -- critical of chip 5 is 11h in bank 0, T1 and FL1 are 22h in bank 2
+    ∷ (askedOfImage 5 6 (imageOf5 0x80 0x11) 0x10, 0x2200)
+    ∷ (askedOfImage 5 6 (imageOf5 0x80 0x11) 0x11, 0x3F00)
     -- "the length of the text": `end 0` and a line feed
     ∷ (translate [] (replicate 6 0), 0x0600)
     ∷ (translate [] (replicate 5 0), 0x0009)
     ∷ []
 
 pub figures-hold : AllHold figures
-unfolding sheetOf rowOf agree figures factsOf position selected temperaturesPass speedsPass nct7802y.card f75373s.card nct7904d.card bank0.bank bank1.bank bank2.bank bank3.bank bank4.bank confirmed curves.words curves.halves curves.slope curves.stepRule textOf endLine decimal
+unfolding sheetOf rowOf column agree figures factsOf position selected pointsPass temperaturesPass speedsPass w83793g.card bankA.bank bankB.bank bankC.bank nct7802y.card f75373s.card nct7904d.card bank0.bank bank1.bank bank2.bank bank3.bank bank4.bank confirmed curves.words curves.halves curves.slope curves.below curves.stepRule textOf endLine decimal
 figures-hold = each figures refl

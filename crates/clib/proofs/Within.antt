@@ -1,6 +1,6 @@
--- What a call answers beside its refusal number is small: no record has more than 18 bytes, no script more than 28 writes, no text more than 40,979 bytes.
+-- What a call answers beside its refusal number is small: no record has more than 22 bytes, no script more than 68 writes, no text more than 40,979 bytes.
 -- Assumes nothing.
-use Prim.Native.Nat.{ℕ, _≤_, _<_, _^_, min}
+use Prim.Native.Nat.{ℕ, _*_, _^_, _≤_, _<_, min}
 use native.Mathlib.Nat.{min-le-right}
 use native.Mathlib.Omega.{arith}
 use mathlib.Core.Path.{_≡_, ap}
@@ -21,6 +21,7 @@ use Rattle.records.specs.Contracts.{writeChecks, WritesRecord}
 use Rattle.records.proofs.Encoding.{length-short, record-short}
 use Rattle.scripts.specs.Scripts.{scriptOf, scriptFor}
 use Rattle.scripts.specs.Contracts.{scriptChecks, Scripts}
+use Rattle.pages.specs.Sheets.{longest}
 use Rattle.scripts.proofs.Lengths.{script-short}
 use Rattle.plays.specs.Contracts.{playChecks, Plays}
 use Rattle.translation.specs.Text.{textOf}
@@ -35,10 +36,10 @@ told-within {t} checks value bound h e = rw (ap (λ (u : ℕ × ℕ). u .1) e) (
     by-test true = h
     by-test false = omega arith
 
-script-within : (plan : Plan) → length (scriptFor plan) ≤ 56
+script-within : (plan : Plan) → length (scriptFor plan) ≤ 4 * longest
 script-within plan = by-name (chipOf (plan .chip))
   where
-    by-name : (named : Named) → length (whenKnown named (λ c. scriptOf c plan) []) ≤ 56
+    by-name : (named : Named) → length (whenKnown named (λ c. scriptOf c plan) []) ≤ 4 * longest
     by-name (Known chip) = script-short chip plan
     by-name Unknown = omega arith
 

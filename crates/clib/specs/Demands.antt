@@ -19,13 +19,14 @@ use Rattle.pages.specs.declared.Named.{Named}
 use Rattle.pages.specs.declared.Named.the-variants.{Known}
 use Rattle.pages.specs.declared.Fan.{Fan}
 use Rattle.pages.specs.declared.Ground.{Ground}
+use Rattle.pages.specs.declared.Layout.{Layout}
 use Rattle.pages.specs.declared.Masks.{Masks}
 use Rattle.pages.specs.declared.Register.{Register}
 use Rattle.pages.specs.declared.Shape.{Shape}
 use Rattle.pages.specs.Banks.{oneBank}
 use Rattle.pages.specs.Sheets.{missing, layout}
 use Rattle.pages.specs.Cards.{chipOf, unknown, hasTable, tellsNamed, tellsFan}
-use Rattle.pages.specs.Contracts.{Names, Finds, PowersOn, TellsSizes, Requires, Lays, LaysOut, Stands, Selects, Positions, StandsInOneRow, StandsAt}
+use Rattle.pages.specs.Contracts.{Names, Finds, PowersOn, TellsSizes, Requires, Lays, LaysOut, Stands, Selects, Positions, GoesWith, StandsInOneRow, StandsAt}
 use Rattle.pages.specs.Identity.{confirmed}
 use Rattle.images.specs.declared.Admitted.{Admitted}
 use Rattle.images.specs.declared.ByteRead.{ByteRead}
@@ -100,6 +101,7 @@ pub record Demand1 : Type 0 where
   pub ground-of : (chip : Chip) (number : ℕ) → Given (λ ground. Stands chip number ground)
   pub selector-of : (chip : Chip) → Given (λ selector. Selects chip selector)
   pub position-of : (chip : Chip) (bank address : ℕ) → Given (λ position. Positions chip bank address position)
+  pub goes-with : (layout : Layout) (points : ℕ) → Given (λ r. GoesWith layout points r)
   pub one-row : (first settings speeds : ℕ) (masks : Masks) → Given (λ ground. StandsInOneRow first settings speeds masks ground)
   pub register-at : (ground : Ground) (k : ℕ) → Given (λ register. StandsAt ground k register)
   -- register images
@@ -130,11 +132,13 @@ pub record Demand1 : Type 0 where
   pub watch-output : (w : Watch) → Given (λ r. watch.Shows w r)
   pub watch-run : (w : Watch) (samples : List ℤ) (high hysteresis : ℤ) → Given (λ r. watch.Runs w samples high hysteresis r)
   -- plans
+  pub count-of : (points : ℕ) → Given (λ r. curves.Holds points r)
   pub speed-of : (shape : Shape) (plan : Plan) (t : ℕ) → Given (λ r. curves.Asks shape plan t r)
   pub temperatures-in-order : (shape : Shape) (plan : Plan) → Given (λ r. curves.OrdersTemperatures shape plan r)
   pub speeds-in-order : (shape : Shape) (plan : Plan) → Given (λ r. curves.OrdersSpeeds shape plan r)
   pub full-of : (shape : Shape) → Given (λ r. curves.Raises shape r)
-  pub plan-of : (leading : Bool) (shape : Shape) (chip table : ℕ) (bytes : List ℕ) → Given (λ plan. bodies.Decodes leading shape chip table bytes plan)
+  pub plan-of : (leading : Bool) (shape : Shape) (chip table points : ℕ) (bytes : List ℕ)
+      → Given (λ plan. bodies.Decodes leading shape chip table points bytes plan)
   pub body-of : (leading : Bool) (shape : Shape) (plan : Plan) → Given (λ bytes. bodies.EncodesBody leading shape plan bytes)
   pub accept : (plan : Plan) (r : Admitted) → plans.Accepts plan r → Answered (plans.planChecks plan) 0 (images.tellsAdmitted r)
   pub judge : (plan : Plan) (r : Outcome) → plans.Judges plan r → Answered (plans.planChecks plan) tt (verdict r)
