@@ -1,5 +1,5 @@
 -- `nct7904d::inputs` is safe and ends: the loop counts up to 6Bh.
--- Assumes nothing.
+-- Assumes what libc promises of `write`: that it moves no more bytes than its buffer has.
 use borrow.Author.Needs.{needs}
 use Prim.Native.Nat.{_≤_, _-_}
 use Rattle.figures_readings.proofs.nct7904d.inputs.Statement.{statement}
