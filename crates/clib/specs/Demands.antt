@@ -132,7 +132,7 @@ pub record Demand1 : Type 0 where
   pub watch-output : (w : Watch) → Given (λ r. watch.Shows w r)
   pub watch-run : (w : Watch) (samples : List ℤ) (high hysteresis : ℤ) → Given (λ r. watch.Runs w samples high hysteresis r)
   -- plans
-  pub count-of : (points : ℕ) → Given (λ r. curves.Holds points r)
+  pub count-of : (points : ℕ) → Given (λ r. curves.CountsPoints points r)
   pub speed-of : (shape : Shape) (plan : Plan) (t : ℕ) → Given (λ r. curves.Asks shape plan t r)
   pub temperatures-in-order : (shape : Shape) (plan : Plan) → Given (λ r. curves.OrdersTemperatures shape plan r)
   pub speeds-in-order : (shape : Shape) (plan : Plan) → Given (λ r. curves.OrdersSpeeds shape plan r)

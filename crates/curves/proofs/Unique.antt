@@ -5,10 +5,10 @@ use mathlib.Core.Path.{_≡_, sym, _∙_}
 use mathlib.Core.Bool.{Bool}
 use Rattle.pages.specs.declared.Shape.{Shape}
 use Rattle.curves.specs.declared.Plan.{Plan}
-use Rattle.curves.specs.Contracts.{Holds, Asks, OrdersTemperatures, OrdersSpeeds, Raises}
+use Rattle.curves.specs.Contracts.{CountsPoints, Asks, OrdersTemperatures, OrdersSpeeds, Raises}
 
-pub holds-unique : {points r s : ℕ} → Holds points r → Holds points s → r ≡ s
-holds-unique p q = p .answer ∙ sym (q .answer)
+pub counts-points-unique : {points r s : ℕ} → CountsPoints points r → CountsPoints points s → r ≡ s
+counts-points-unique p q = p .answer ∙ sym (q .answer)
 
 pub asks-unique : {shape : Shape} {plan : Plan} {t r s : ℕ} → Asks shape plan t r → Asks shape plan t s → r ≡ s
 asks-unique p q = p .answer ∙ sym (q .answer)

@@ -9,7 +9,7 @@ use Rattle.curves.specs.declared.Plan.{Plan}
 use Rattle.curves.specs.Planned.{planned, asks, temperaturesInOrder, speedsInOrder, fullOf}
 
 -- what `curves::count_of` promises
-pub record Holds (points r : ℕ) : Type 0 where
+pub record CountsPoints (points r : ℕ) : Type 0 where
   pub answer : r ≡ min points mostPoints
 
 -- what `curves::speed_of` promises

@@ -5,7 +5,7 @@ mod slope;
 mod steps;
 
 use pages::Shape;
-ghost use Rattle.curves.specs.Contracts.{Holds, Asks, OrdersTemperatures, OrdersSpeeds, Raises};
+ghost use Rattle.curves.specs.Contracts.{CountsPoints, Asks, OrdersTemperatures, OrdersSpeeds, Raises};
 
 // No slope has more points.
 pub const MOST_POINTS: usize = 8;
@@ -47,7 +47,7 @@ pub const NO_STEPS: StepValues = StepValues {
 
 // How many points of a slope a plan holds: as many as its shape says, and no more than there is room for.
 pub fn count_of(points: u8) -> usize
-    ensures { λ r. ⌜ Holds points r ⌝ }
+    ensures { λ r. ⌜ CountsPoints points r ⌝ }
 {
     let count = points as usize;
     if count < MOST_POINTS {

@@ -22,8 +22,6 @@ ghost use Rattle.pages.specs.Contracts.{Finds, PowersOn, Requires, Stands, Lays
 
 const SIZE: usize = 256;
 
-const REQUIRED: usize = 4;
-
 // The interrupt status registers alone have bits that clear on one.
 fn clears(position: usize) -> u8
     ensures { λ r. ⌜ r ≡ rowIn card position .clears ⌝ }
@@ -57,40 +55,36 @@ pub fn power(position: usize) -> u8
 }
 
 // The registers that identity looks at, all of them required.
-const IDENTITY: [Required; REQUIRED] = [
-    Required {
-        position: 0x5A,
-        bits: 0xFF,
-        value: 0x02,
-        other: 0x02,
-    },
-    Required {
-        position: 0x5B,
-        bits: 0xFF,
-        value: 0x04,
-        other: 0x04,
-    },
-    Required {
-        position: 0x5D,
-        bits: 0xFF,
-        value: 0x19,
-        other: 0x19,
-    },
-    Required {
-        position: 0x5E,
-        bits: 0xFF,
-        value: 0x34,
-        other: 0x34,
-    },
-];
-
 pub fn required(k: usize) -> Required
     ensures { λ r. ⌜ Requires F75373s k r ⌝ }
 {
-    if REQUIRED <= k {
-        return NOTHING;
+    match k {
+        0 => Required {
+            position: 0x5A,
+            bits: 0xFF,
+            value: 0x02,
+            other: 0x02,
+        },
+        1 => Required {
+            position: 0x5B,
+            bits: 0xFF,
+            value: 0x04,
+            other: 0x04,
+        },
+        2 => Required {
+            position: 0x5D,
+            bits: 0xFF,
+            value: 0x19,
+            other: 0x19,
+        },
+        3 => Required {
+            position: 0x5E,
+            bits: 0xFF,
+            value: 0x34,
+            other: 0x34,
+        },
+        _ => NOTHING,
     }
-    IDENTITY[k]
 }
 
 // "All fan table registers have mask FFh".

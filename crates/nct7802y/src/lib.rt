@@ -19,8 +19,6 @@ ghost use Rattle.pages.specs.Contracts.{Finds, PowersOn, Requires, Stands, Lays
 
 const SIZE: usize = 256;
 
-const REQUIRED: usize = 5;
-
 pub fn masks(position: usize) -> Masks
     ensures { λ r. ⌜ Finds Nct7802y position r ⌝ }
 {
@@ -43,46 +41,42 @@ pub fn power(position: usize) -> u8
 }
 
 // The registers that identity looks at, all of them required.
-const IDENTITY: [Required; REQUIRED] = [
-    Required {
-        position: 0xFD,
-        bits: 0xFF,
-        value: 0x50,
-        other: 0x50,
-    },
-    Required {
-        position: 0xFE,
-        bits: 0xFF,
-        value: 0xC3,
-        other: 0xC3,
-    },
-    Required {
-        position: 0xFF,
-        bits: 0xF0,
-        value: 0x20,
-        other: 0x20,
-    },
-    Required {
-        position: 0x05,
-        bits: 0x1F,
-        value: 0x00,
-        other: 0x00,
-    },
-    Required {
-        position: 0x08,
-        bits: 0x3F,
-        value: 0x00,
-        other: 0x00,
-    },
-];
-
 pub fn required(k: usize) -> Required
     ensures { λ r. ⌜ Requires Nct7802y k r ⌝ }
 {
-    if REQUIRED <= k {
-        return NOTHING;
+    match k {
+        0 => Required {
+            position: 0xFD,
+            bits: 0xFF,
+            value: 0x50,
+            other: 0x50,
+        },
+        1 => Required {
+            position: 0xFE,
+            bits: 0xFF,
+            value: 0xC3,
+            other: 0xC3,
+        },
+        2 => Required {
+            position: 0xFF,
+            bits: 0xF0,
+            value: 0x20,
+            other: 0x20,
+        },
+        3 => Required {
+            position: 0x05,
+            bits: 0x1F,
+            value: 0x00,
+            other: 0x00,
+        },
+        4 => Required {
+            position: 0x08,
+            bits: 0x3F,
+            value: 0x00,
+            other: 0x00,
+        },
+        _ => NOTHING,
     }
-    IDENTITY[k]
 }
 
 // "All fan table registers have mask FFh".

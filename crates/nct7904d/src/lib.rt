@@ -26,8 +26,6 @@ ghost use Rattle.pages.specs.Nct7904d.{card};
 ghost use Rattle.pages.specs.Rows.{rowIn, everyBit, stretch};
 ghost use Rattle.pages.specs.Contracts.{Finds, PowersOn, Requires, Stands, Lays, Positions};
 
-const REQUIRED: usize = 6;
-
 // A bank at a time.
 fn writable(bank: usize, address: usize) -> u8
     requires { ⌜ address < 256 ⌝ }
@@ -86,52 +84,48 @@ pub fn position(bank: u8, address: u8) -> usize
 }
 
 // The registers that identity looks at, all of them required.
-const IDENTITY: [Required; REQUIRED] = [
-    Required {
-        position: 0x0D,
-        bits: 0xFF,
-        value: 0x50,
-        other: 0x50,
-    },
-    Required {
-        position: 0x0E,
-        bits: 0xFF,
-        value: 0xC5,
-        other: 0xC5,
-    },
-    Required {
-        position: 0x0F,
-        bits: 0xF0,
-        value: 0x50,
-        other: 0x50,
-    },
-    Required {
-        position: 0x7A,
-        bits: 0xFF,
-        value: 0x50,
-        other: 0x50,
-    },
-    Required {
-        position: 0x7B,
-        bits: 0xFF,
-        value: 0xC5,
-        other: 0xC5,
-    },
-    Required {
-        position: 0x7C,
-        bits: 0xF0,
-        value: 0x50,
-        other: 0x50,
-    },
-];
-
 pub fn required(k: usize) -> Required
     ensures { λ r. ⌜ Requires Nct7904d k r ⌝ }
 {
-    if REQUIRED <= k {
-        return NOTHING;
+    match k {
+        0 => Required {
+            position: 0x0D,
+            bits: 0xFF,
+            value: 0x50,
+            other: 0x50,
+        },
+        1 => Required {
+            position: 0x0E,
+            bits: 0xFF,
+            value: 0xC5,
+            other: 0xC5,
+        },
+        2 => Required {
+            position: 0x0F,
+            bits: 0xF0,
+            value: 0x50,
+            other: 0x50,
+        },
+        3 => Required {
+            position: 0x7A,
+            bits: 0xFF,
+            value: 0x50,
+            other: 0x50,
+        },
+        4 => Required {
+            position: 0x7B,
+            bits: 0xFF,
+            value: 0xC5,
+            other: 0xC5,
+        },
+        5 => Required {
+            position: 0x7C,
+            bits: 0xF0,
+            value: 0x50,
+            other: 0x50,
+        },
+        _ => NOTHING,
     }
-    IDENTITY[k]
 }
 
 // Every bit of a fan table's registers may be written.

@@ -22,8 +22,6 @@ ghost use Rattle.pages.specs.W83793g.{card};
 ghost use Rattle.pages.specs.Rows.{rowIn, maskOf, stretch};
 ghost use Rattle.pages.specs.Contracts.{Finds, PowersOn, Requires, Stands, Lays, Positions};
 
-const REQUIRED: usize = 3;
-
 // A bank at a time.
 fn writable(bank: usize, address: usize) -> u8
     requires { ⌜ address < 256 ⌝ }
@@ -78,34 +76,30 @@ pub fn position(bank: u8, address: u8) -> usize
 }
 
 // The registers that identity looks at, all of them required: the vendor's high byte, the chip, and version B or C.
-const IDENTITY: [Required; REQUIRED] = [
-    Required {
-        position: 0x0D,
-        bits: 0xFF,
-        value: 0x5C,
-        other: 0x5C,
-    },
-    Required {
-        position: 0x0E,
-        bits: 0xFF,
-        value: 0x7B,
-        other: 0x7B,
-    },
-    Required {
-        position: 0x0F,
-        bits: 0xFF,
-        value: 0x11,
-        other: 0x12,
-    },
-];
-
 pub fn required(k: usize) -> Required
     ensures { λ r. ⌜ Requires W83793g k r ⌝ }
 {
-    if REQUIRED <= k {
-        return NOTHING;
+    match k {
+        0 => Required {
+            position: 0x0D,
+            bits: 0xFF,
+            value: 0x5C,
+            other: 0x5C,
+        },
+        1 => Required {
+            position: 0x0E,
+            bits: 0xFF,
+            value: 0x7B,
+            other: 0x7B,
+        },
+        2 => Required {
+            position: 0x0F,
+            bits: 0xFF,
+            value: 0x11,
+            other: 0x12,
+        },
+        _ => NOTHING,
     }
-    IDENTITY[k]
 }
 
 // A temperature has bits 6 to 0, a duty bits 5 to 0.
