@@ -161,7 +161,7 @@ inStretches card table =
     && (isStretch card (drop (length (table .settings) - 1) (table .settings)) && isStretch card (table .speeds))
 
 -- what a text has room for: the lines of a plan, a header of at most 35 bytes and 6 for each write, are no more than ten for each byte of its record,
--- whose header has 4; and no script has more writes than the text's buffer
+-- whose header has 4, a point count not counted; and no script has more writes than the text's buffer
 abbrev pub brief : Layout → Bool
 brief l =
     leb (35 + 6 * (l .selects + (l .speeds + (l .settings + l .speeds)))) (10 * (4 + (l .settings + l .speeds)))

@@ -68,7 +68,8 @@ recordChecks bytes =
 abbrev pub writeChecks : Plan → List ℕ → List Check
 writeChecks plan out = planChecks plan ++ roomChecks (length (encoded plan)) out
 
--- what `records::plan_from` promises: the plan, and how many of the bytes are its body, its point count with it. They are only read, so they are what they were.
+-- what `records::plan_from` promises: the plan, and how many of the bytes are its body, its point count with it. They are only read, so they are what
+-- they were.
 pub record TakesBody (chip table : ℕ) (bytes : List ℕ) (r : Found) : Type 0 where
   pub answer : tellsAmount (r .answer) ≡ told (bodyChecks chip table bytes) (whenKnown (chipOf chip) bodyLength 0)
   pub plan : r .plan ≡ cond (eqb (first (bodyChecks chip table bytes)) 0) (planOf chip table bytes) noPlan

@@ -27,7 +27,7 @@ pub struct Found {
 }
 
 // How a chip's fan table is laid out, or why there is none.
-pub enum Looked {
+pub(crate) enum Looked {
     Laid(Layout),
     Refused(Refusal),
 }
