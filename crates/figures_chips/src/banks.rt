@@ -4,17 +4,6 @@
 use crate::image_calls;
 use images::ByteRead;
 
-fn written(chip: u8, address: u8, byte: u8, old: &[u8], new: &[u8]) {
-    figures_printing::labelled(b"bus chip ", chip as u64);
-    figures_printing::text(b" write ");
-    figures_printing::byte(address);
-    figures_printing::space();
-    figures_printing::byte(byte);
-    figures_printing::text(b" changed");
-    figures_printing::changes(old, new);
-    figures_printing::line_end();
-}
-
 fn read(chip: u8, image: &[u8], address: u8) {
     figures_printing::labelled(b"bus chip ", chip as u64);
     figures_printing::text(b" read ");
@@ -23,84 +12,96 @@ fn read(chip: u8, image: &[u8], address: u8) {
     figures_printing::line_end();
 }
 
-fn write_4(image: [u8; 1280], address: u8, byte: u8) -> [u8; 1280] {
-    let mut new = image;
-    images::write(4, &mut new, address, byte);
-    written(4, address, byte, &image, &new);
-    new
+// The address of the select register, which is its position too.
+fn select_at(chip: u8) -> u8 {
+    match chip {
+        4 => 0xFF,
+        _ => 0x00,
+    }
 }
 
-fn write_5(image: [u8; 768], address: u8, byte: u8) -> [u8; 768] {
-    let mut new = image;
-    images::write(5, &mut new, address, byte);
-    written(5, address, byte, &image, &new);
-    new
+pub fn put(image: &mut [u8], at: usize, byte: u8) {
+    if at < image.len() {
+        image[at] = byte;
+    }
+}
+
+pub fn select(chip: u8, image: &mut [u8], byte: u8) {
+    put(image, select_at(chip) as usize, byte);
+}
+
+// Of two images that hold the same, the new one is written first: what then differs is shown.
+fn write(chip: u8, old: &mut [u8], new: &mut [u8], address: u8, byte: u8) {
+    images::write(chip, new, address, byte);
+    figures_printing::labelled(b"bus chip ", chip as u64);
+    figures_printing::text(b" write ");
+    figures_printing::byte(address);
+    figures_printing::space();
+    figures_printing::byte(byte);
+    figures_printing::text(b" changed");
+    figures_printing::changes(old, new);
+    figures_printing::line_end();
+    images::write(chip, old, address, byte);
+}
+
+// The bits of the select register that can't be written stay, 7 to 3 of chip 4 and 6 to 3 of chip 5, and what is seen in every bank is read only in each.
+fn kept_bits(chip: u8, old: &mut [u8], new: &mut [u8], held: u8, byte: u8, seen: [u8; 3]) {
+    select(chip, old, held);
+    select(chip, new, held);
+    write(chip, old, new, select_at(chip), byte);
+    write(chip, old, new, seen[0], 0xFF);
+    write(chip, old, new, seen[1], 0xFF);
+    write(chip, old, new, seen[2], 0xFF);
 }
 
 // The request's example.
-fn example_4() -> [u8; 1280] {
-    let mut image = [0u8; 1280];
-    images::reset(4, &mut image);
-    image = write_4(image, 0xFF, 0x83);
-    read(4, &image, 0xFF);
-    read(4, &image, 0x20);
-    read(4, &image, 0x7A);
-    image = write_4(image, 0x20, 0x55);
-    read(4, &image, 0x20);
-    image = write_4(image, 0xFF, 0x06);
-    read(4, &image, 0x20);
-    read(4, &image, 0x7B);
-    image = write_4(image, 0x20, 0x11);
-    image = write_4(image, 0xFF, 0x04);
-    read(4, &image, 0x10);
-    read(4, &image, 0x20);
-    image
+fn example_4() {
+    let mut old = [0u8; 1280];
+    let mut new = [0u8; 1280];
+    images::reset(4, &mut old);
+    images::reset(4, &mut new);
+    write(4, &mut old, &mut new, 0xFF, 0x83);
+    read(4, &new, 0xFF);
+    read(4, &new, 0x20);
+    read(4, &new, 0x7A);
+    write(4, &mut old, &mut new, 0x20, 0x55);
+    read(4, &new, 0x20);
+    write(4, &mut old, &mut new, 0xFF, 0x06);
+    read(4, &new, 0x20);
+    read(4, &new, 0x7B);
+    write(4, &mut old, &mut new, 0x20, 0x11);
+    write(4, &mut old, &mut new, 0xFF, 0x04);
+    read(4, &new, 0x10);
+    read(4, &new, 0x20);
+    kept_bits(4, &mut old, &mut new, 0x2C, 0x03, [0x7A, 0x7B, 0x7C]);
 }
 
 // Bit 7 of the select register goes to zero, and the vendor byte stays the high one; T1 of table 1 takes seven bits; code 5 has the shared registers
 // alone; bits 6 to 3 stay zero; 50h is the critical temperature, in bank 0.
-fn example_5() -> [u8; 768] {
-    let mut image = [0u8; 768];
-    images::reset(5, &mut image);
-    image = write_5(image, 0x00, 0x02);
-    read(5, &image, 0x00);
-    read(5, &image, 0x30);
-    read(5, &image, 0xC5);
-    read(5, &image, 0x0D);
-    image = write_5(image, 0x30, 0xA8);
-    read(5, &image, 0x30);
-    image = write_5(image, 0x00, 0x05);
-    read(5, &image, 0x30);
-    read(5, &image, 0xC5);
-    read(5, &image, 0x0E);
-    image = write_5(image, 0x30, 0x11);
-    image = write_5(image, 0x00, 0xF8);
-    read(5, &image, 0x00);
-    read(5, &image, 0x0D);
-    read(5, &image, 0x0F);
-    read(5, &image, 0x30);
-    read(5, &image, 0xC5);
-    image
-}
-
-// The bits of the select register that can't be written stay, 7 to 3, and what is seen in every bank is read only in each.
-fn kept_bits_4(old: [u8; 1280]) {
-    let mut image = old;
-    image[0xFF] = 0x2C;
-    image = write_4(image, 0xFF, 0x03);
-    write_4(image, 0x7A, 0xFF);
-    write_4(image, 0x7B, 0xFF);
-    write_4(image, 0x7C, 0xFF);
-}
-
-// Here they are 6 to 3.
-fn kept_bits_5(old: [u8; 768]) {
-    let mut image = old;
-    image[0x00] = 0x7A;
-    image = write_5(image, 0x00, 0x81);
-    write_5(image, 0x0D, 0xFF);
-    write_5(image, 0x0E, 0xFF);
-    write_5(image, 0x0F, 0xFF);
+fn example_5() {
+    let mut old = [0u8; 768];
+    let mut new = [0u8; 768];
+    images::reset(5, &mut old);
+    images::reset(5, &mut new);
+    write(5, &mut old, &mut new, 0x00, 0x02);
+    read(5, &new, 0x00);
+    read(5, &new, 0x30);
+    read(5, &new, 0xC5);
+    read(5, &new, 0x0D);
+    write(5, &mut old, &mut new, 0x30, 0xA8);
+    read(5, &new, 0x30);
+    write(5, &mut old, &mut new, 0x00, 0x05);
+    read(5, &new, 0x30);
+    read(5, &new, 0xC5);
+    read(5, &new, 0x0E);
+    write(5, &mut old, &mut new, 0x30, 0x11);
+    write(5, &mut old, &mut new, 0x00, 0xF8);
+    read(5, &new, 0x00);
+    read(5, &new, 0x0D);
+    read(5, &new, 0x0F);
+    read(5, &new, 0x30);
+    read(5, &new, 0xC5);
+    kept_bits(5, &mut old, &mut new, 0x7A, 0x81, [0x0D, 0x0E, 0x0F]);
 }
 
 fn digested(digest: u16, b: u8) -> u16 {
@@ -130,15 +131,15 @@ fn digest_of_reads(chip: u8, image: &[u8]) -> u16 {
     digest
 }
 
-fn write_beside(chip: u8, image: &mut [u8], select_at: u8, address: u8) {
-    if address != select_at {
+fn write_beside(chip: u8, image: &mut [u8], address: u8) {
+    if address != select_at(chip) {
         images::write(chip, image, address, 0xA5);
     }
 }
 
-fn write_all_beside(chip: u8, image: &mut [u8], select_at: u8) {
+fn write_all_beside(chip: u8, image: &mut [u8]) {
     for address in 0..=255u8 {
-        write_beside(chip, image, select_at, address);
+        write_beside(chip, image, address);
     }
 }
 
@@ -149,50 +150,31 @@ fn fill_with_positions(image: &mut [u8]) {
     }
 }
 
-fn digests(chip: u8, image: &mut [u8], select_at: u8, select: u8) {
+fn selected(chip: u8, image: &mut [u8], byte: u8) {
+    fill_with_positions(image);
+    select(chip, image, byte);
     figures_printing::labelled(b"bank chip ", chip as u64);
     figures_printing::text(b" select ");
-    figures_printing::byte(select);
+    figures_printing::byte(byte);
     figures_printing::text(b" reads ");
     figures_printing::word(digest_of_reads(chip, image));
-    write_all_beside(chip, image, select_at);
+    write_all_beside(chip, image);
     figures_printing::text(b" writes ");
     figures_printing::word(digest(image));
     figures_printing::line_end();
 }
 
-fn selected_4(select: u8) {
-    let mut image = [0u8; 1280];
-    fill_with_positions(&mut image);
-    image[0xFF] = select;
-    digests(4, &mut image, 0xFF, select);
-}
-
-fn selected_5(select: u8) {
-    let mut image = [0u8; 768];
-    fill_with_positions(&mut image);
-    image[0x00] = select;
-    digests(5, &mut image, 0x00, select);
-}
-
 // Each bank code, whatever the other bits hold.
-fn codes_of_4() {
+fn codes_of(chip: u8, image: &mut [u8]) {
     for code in 0..8u8 {
-        selected_4(code);
-        selected_4(code | 0xA8);
-    }
-}
-
-fn codes_of_5() {
-    for code in 0..8u8 {
-        selected_5(code);
-        selected_5(code | 0xA8);
+        selected(chip, image, code);
+        selected(chip, image, code | 0xA8);
     }
 }
 
 pub fn print_all() {
-    kept_bits_4(example_4());
-    codes_of_4();
-    kept_bits_5(example_5());
-    codes_of_5();
+    example_4();
+    codes_of(4, &mut [0u8; 1280]);
+    example_5();
+    codes_of(5, &mut [0u8; 768]);
 }

@@ -1,6 +1,7 @@
 // Which bits identity sees: each bit of a power-on image is turned over by itself. `identity chip C power-on confirmed bits N`, and by position
 // `identity chip C sees PPP MM`; of chips 4 and 5 with each bank code selected, `identity chip C select SS confirmed bits N`; of chip 5 each byte with
 // which a register is confirmed, `identity chip 5 select SS at PPP takes BB`.
+use crate::banks;
 use crate::image_calls;
 use refusal::Outcome;
 
@@ -73,49 +74,36 @@ fn at_power_on(chip: u8, image: &mut [u8]) {
     figures_printing::line_end();
 }
 
-fn selected(chip: u8, image: &mut [u8], select: u8) {
+// Of the power-on image with a bank selected.
+fn begin_selected(chip: u8, image: &mut [u8], select: u8) {
+    images::reset(chip, image);
+    banks::select(chip, image, select);
     begin(chip);
     figures_printing::text(b" select ");
     figures_printing::byte(select);
+}
+
+fn selected(chip: u8, image: &mut [u8], select: u8) {
+    begin_selected(chip, image, select);
     confirmed(chip, image);
 }
 
-fn selected_4(select: u8) {
-    let mut image = [0u8; 1280];
-    images::reset(4, &mut image);
-    image[0xFF] = select;
-    selected(4, &mut image, select);
-}
-
-fn selected_5(select: u8) {
-    let mut image = [0u8; 768];
-    images::reset(5, &mut image);
-    image[0x00] = select;
-    selected(5, &mut image, select);
-}
-
-fn codes_of_4() {
-    for code in 0..8u8 {
-        selected_4(code);
+// Of chip 5 with bit 7 of the select register off and on.
+fn selected_by(chip: u8, image: &mut [u8], code: u8) {
+    selected(chip, image, code);
+    if chip == 5 {
+        selected(chip, image, code | 0x80);
     }
 }
 
-// With bit 7 of the select register off and on.
-fn codes_of_5() {
+fn codes_of(chip: u8, image: &mut [u8]) {
     for code in 0..8u8 {
-        selected_5(code);
-        selected_5(code | 0x80);
-    }
-}
-
-fn put(image: &mut [u8], at: usize, byte: u8) {
-    if at < image.len() {
-        image[at] = byte;
+        selected_by(chip, image, code);
     }
 }
 
 fn tried(chip: u8, image: &mut [u8], at: usize, byte: u8) {
-    put(image, at, byte);
+    banks::put(image, at, byte);
     if let Outcome::Accepted = identities::confirm(chip, image) {
         figures_printing::space();
         figures_printing::byte(byte);
@@ -131,11 +119,7 @@ fn try_all(chip: u8, image: &mut [u8], at: usize) {
 
 fn takes(select: u8, at: usize) {
     let mut image = [0u8; 768];
-    images::reset(5, &mut image);
-    image[0x00] = select;
-    begin(5);
-    figures_printing::text(b" select ");
-    figures_printing::byte(select);
+    begin_selected(5, &mut image, select);
     figures_printing::text(b" at ");
     figures_printing::position(at);
     figures_printing::text(b" takes");
@@ -168,8 +152,8 @@ pub fn print_all() {
     at_power_on(4, &mut of_4);
     let mut of_5 = [0u8; 768];
     at_power_on(5, &mut of_5);
-    codes_of_4();
-    codes_of_5();
+    codes_of(4, &mut of_4);
+    codes_of(5, &mut of_5);
     all_taken(0x80);
     all_taken(0x00);
     without();

@@ -122,7 +122,8 @@ pub fn print_all() {
     chips(3);
 }
 
-fn stored_in(image: &mut [u8], chip: u8, address: u8, byte: u8) {
+// A byte written to a register that holds 5Ah, and what it then holds.
+fn stored(image: &mut [u8], chip: u8, address: u8, byte: u8) {
     images::write(chip, image, address, byte);
     figures_printing::labelled(b"stored chip ", chip as u64);
     figures_printing::space();
@@ -133,45 +134,29 @@ fn stored_in(image: &mut [u8], chip: u8, address: u8, byte: u8) {
     figures_printing::line_end();
 }
 
-// A byte written to a register that holds 5Ah, and what it then holds.
-fn stored(chip: u8, address: u8, byte: u8) {
-    let mut image = [FILL; 256];
-    stored_in(&mut image, chip, address, byte);
-}
-
-fn stored_of_4(address: u8, byte: u8) {
-    let mut image = [FILL; 1280];
-    stored_in(&mut image, 4, address, byte);
-}
-
-fn stored_of_5(address: u8, byte: u8) {
-    let mut image = [FILL; 768];
-    stored_in(&mut image, 5, address, byte);
-}
-
 // Bits 0 and 1 of 34h of chip 2 clear on one, 54h of chip 1 has six writable bits, 3Eh of chip 3 none. 5Ah selects bank 2 of chips 4 and 5. There 00h
 // of chip 4 has four writable bits; FFh has three and 7Ah none. 30h of chip 5 has seven there and 38h six; 00h has four and 0Dh none.
 pub fn print_stored() {
-    stored(2, 0x34, 0x00);
-    stored(2, 0x34, 0x01);
-    stored(2, 0x34, 0x02);
-    stored(2, 0x34, 0xFF);
-    stored(1, 0x54, 0x00);
-    stored(1, 0x54, 0xFF);
-    stored(3, 0x3E, 0x00);
-    stored(3, 0x3E, 0xFF);
-    stored_of_4(0x00, 0x00);
-    stored_of_4(0x00, 0xFF);
-    stored_of_4(0x7A, 0x00);
-    stored_of_4(0x7A, 0xFF);
-    stored_of_4(0xFF, 0x00);
-    stored_of_4(0xFF, 0xFF);
-    stored_of_5(0x30, 0x00);
-    stored_of_5(0x30, 0xFF);
-    stored_of_5(0x38, 0x00);
-    stored_of_5(0x38, 0xFF);
-    stored_of_5(0x0D, 0x00);
-    stored_of_5(0x0D, 0xFF);
-    stored_of_5(0x00, 0x00);
-    stored_of_5(0x00, 0xFF);
+    stored(&mut [FILL; 256], 2, 0x34, 0x00);
+    stored(&mut [FILL; 256], 2, 0x34, 0x01);
+    stored(&mut [FILL; 256], 2, 0x34, 0x02);
+    stored(&mut [FILL; 256], 2, 0x34, 0xFF);
+    stored(&mut [FILL; 256], 1, 0x54, 0x00);
+    stored(&mut [FILL; 256], 1, 0x54, 0xFF);
+    stored(&mut [FILL; 256], 3, 0x3E, 0x00);
+    stored(&mut [FILL; 256], 3, 0x3E, 0xFF);
+    stored(&mut [FILL; 1280], 4, 0x00, 0x00);
+    stored(&mut [FILL; 1280], 4, 0x00, 0xFF);
+    stored(&mut [FILL; 1280], 4, 0x7A, 0x00);
+    stored(&mut [FILL; 1280], 4, 0x7A, 0xFF);
+    stored(&mut [FILL; 1280], 4, 0xFF, 0x00);
+    stored(&mut [FILL; 1280], 4, 0xFF, 0xFF);
+    stored(&mut [FILL; 768], 5, 0x30, 0x00);
+    stored(&mut [FILL; 768], 5, 0x30, 0xFF);
+    stored(&mut [FILL; 768], 5, 0x38, 0x00);
+    stored(&mut [FILL; 768], 5, 0x38, 0xFF);
+    stored(&mut [FILL; 768], 5, 0x0D, 0x00);
+    stored(&mut [FILL; 768], 5, 0x0D, 0xFF);
+    stored(&mut [FILL; 768], 5, 0x00, 0x00);
+    stored(&mut [FILL; 768], 5, 0x00, 0xFF);
 }

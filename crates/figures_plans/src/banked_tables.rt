@@ -41,7 +41,15 @@ fn list(chip: u8, table: u8, image: &mut [u8]) {
     }
 }
 
-fn looks(chip: u8, table: u8, image: &mut [u8]) {
+fn select(image: &mut [u8], select_at: usize, byte: u8) {
+    if select_at < image.len() {
+        image[select_at] = byte;
+    }
+}
+
+fn looks(chip: u8, table: u8, image: &mut [u8], select_at: usize) {
+    images::reset(chip, image);
+    select(image, select_at, table % 8);
     figures_printing::labelled(b"image chip ", chip as u64);
     figures_printing::labelled(b" table ", table as u64);
     figures_printing::text(b" select ");
@@ -51,33 +59,14 @@ fn looks(chip: u8, table: u8, image: &mut [u8]) {
     figures_printing::line_end();
 }
 
-fn looks_4(table: u8) {
-    let mut image = [0u8; 1280];
-    images::reset(4, &mut image);
-    image[0xFF] = table % 8;
-    looks(4, table, &mut image);
-}
-
-fn looks_5(table: u8) {
-    let mut image = [0u8; 768];
-    images::reset(5, &mut image);
-    image[0x00] = table % 8;
-    looks(5, table, &mut image);
-}
-
-fn all_of_4() {
-    for table in 1..11u8 {
-        looks_4(table);
-    }
-}
-
-fn all_of_5() {
-    for table in 1..7u8 {
-        looks_5(table);
+// Each table below a number.
+fn all_of(chip: u8, image: &mut [u8], select_at: usize, end: u8) {
+    for table in 1..end {
+        looks(chip, table, image, select_at);
     }
 }
 
 pub fn print_all() {
-    all_of_4();
-    all_of_5();
+    all_of(4, &mut [0u8; 1280], 0xFF, 11);
+    all_of(5, &mut [0u8; 768], 0x00, 7);
 }

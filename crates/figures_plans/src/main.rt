@@ -191,22 +191,12 @@ fn asked_of(chip: u8, table: u8, image: &[u8]) {
     }
 }
 
-fn power_on(chip: u8, table: u8) {
-    let mut image = [0u8; 256];
-    images::reset(chip, &mut image);
-    asked_of(chip, table, &image);
-}
-
-fn power_on_banked(table: u8) {
-    let mut image = [0u8; 1280];
-    images::reset(4, &mut image);
-    asked_of(4, table, &image);
-}
-
-fn power_on_seven(table: u8) {
-    let mut image = [0u8; 768];
-    images::reset(5, &mut image);
-    asked_of(5, table, &image);
+// Of the power-on image, each table below a number.
+fn power_on(chip: u8, image: &mut [u8], end: u8) {
+    images::reset(chip, image);
+    for table in 1..end {
+        asked_of(chip, table, image);
+    }
 }
 
 // Of bytes that are all 5Ah, one too few for an image, as many as one has, and one too many.
@@ -234,18 +224,6 @@ fn tables(chip: u8) {
     lengths(chip, 11);
 }
 
-fn banked_power_on() {
-    for table in 1..11u8 {
-        power_on_banked(table);
-    }
-}
-
-fn seven_power_on() {
-    for table in 1..7u8 {
-        power_on_seven(table);
-    }
-}
-
 fn main() {
     figures();
     seven_figures();
@@ -254,13 +232,10 @@ fn main() {
     whole_curve();
     all_steps();
     unordered();
-    power_on(1, 1);
-    power_on(1, 2);
-    power_on(1, 3);
-    power_on(2, 1);
-    power_on(2, 2);
-    banked_power_on();
-    seven_power_on();
+    power_on(1, &mut [0u8; 256], 4);
+    power_on(2, &mut [0u8; 256], 3);
+    power_on(4, &mut [0u8; 1280], 11);
+    power_on(5, &mut [0u8; 768], 7);
     banked_tables::print_all();
     unmasked::print_all();
     tables(0);

@@ -77,8 +77,7 @@ pub fn compared(plan: Plan, old: &[u8], new: &[u8]) {
     speeds(plan, old, new);
 }
 
-// Played on a copy of the image.
-fn stop(plan: Plan, old: &[u8], new: &mut [u8], count: usize) {
+fn stop_on(plan: Plan, old: &[u8], new: &mut [u8], count: usize) {
     copy(old, new);
     figures_printing::text(b"stop");
     figures_samples::head(plan);
@@ -88,28 +87,26 @@ fn stop(plan: Plan, old: &[u8], new: &mut [u8], count: usize) {
     figures_printing::line_end();
 }
 
-// At each number of writes up to one more than there are, and at the greatest number.
-fn stops(plan: Plan, old: &[u8], new: &mut [u8], counts: usize) {
-    for count in 0..counts {
-        stop(plan, old, new, count);
+// Played on a copy of the image.
+fn stop(plan: Plan, old: &[u8], count: usize) {
+    let mut new = [0u8; 1280];
+    if old.len() <= 1280 {
+        stop_on(plan, old, &mut new[..old.len()], count);
     }
-    stop(plan, old, new, 0xFFFFFFFFFFFFFFFF);
+}
+
+// At each number of writes up to one more than there are, and at the greatest number.
+fn stops(plan: Plan, old: &[u8], counts: usize) {
+    for count in 0..counts {
+        stop(plan, old, count);
+    }
+    stop(plan, old, 0xFFFFFFFFFFFFFFFF);
 }
 
 pub fn power_on(chip: u8) -> [u8; 256] {
     let mut image = [0u8; 256];
     images::reset(chip, &mut image);
     image
-}
-
-fn stops_from(plan: Plan, old: [u8; 256], counts: usize) {
-    let mut new = [0u8; 256];
-    stops(plan, &old, &mut new, counts);
-}
-
-fn stop_from(plan: Plan, old: [u8; 256], count: usize) {
-    let mut new = [0u8; 256];
-    stop(plan, &old, &mut new, count);
 }
 
 // With the temperatures first, 38 degrees would ask 140, less than either curve: chip 1's and chip 4's registers hold the same at power-on.
@@ -156,16 +153,16 @@ pub fn earlier() -> [u8; 256] {
 // Of chips 1 and 2.
 fn one_bank() {
     let slope = slope(1, 1, 65);
-    stops_from(slope, power_on(1), 15);
+    stops(slope, &power_on(1), 15);
     let steps = stepped();
-    stops_from(steps, power_on(2), 26);
-    stops_from(steps, earlier(), 26);
+    stops(steps, &power_on(2), 26);
+    stops(steps, &earlier(), 26);
     // The image of another chip, and an image with one bit of its identity turned over: nothing is written.
-    stop_from(slope, power_on(2), 13);
-    stop_from(steps, power_on(1), 24);
+    stop(slope, &power_on(2), 13);
+    stop(steps, &power_on(1), 24);
     let mut image = power_on(1);
     image[0xFF] = image[0xFF] ^ 0x10;
-    stop_from(slope, image, 13);
+    stop(slope, &image, 13);
 }
 
 fn power_on_banked(select: u8) -> [u8; 1280] {
@@ -190,26 +187,16 @@ pub fn unordered() -> [u8; 1280] {
     image
 }
 
-fn stops_from_banked(plan: Plan, old: [u8; 1280]) {
-    let mut new = [0u8; 1280];
-    stops(plan, &old, &mut new, 16);
-}
-
-fn stop_from_banked(plan: Plan, old: [u8; 1280], count: usize) {
-    let mut new = [0u8; 1280];
-    stop(plan, &old, &mut new, count);
-}
-
 // Of chip 4.
 fn banked() {
-    stops_from_banked(slope(4, 1, 95), power_on_banked(0));
-    stops_from_banked(slope(4, 7, 95), unordered());
+    stops(slope(4, 1, 95), &power_on_banked(0), 16);
+    stops(slope(4, 7, 95), &unordered(), 16);
     // An image of another length, and one with one bit of its identity turned over: nothing is written.
-    stop_from(slope(4, 1, 95), power_on(1), 14);
-    stop_from_banked(slope(1, 1, 65), power_on_banked(0), 13);
+    stop(slope(4, 1, 95), &power_on(1), 14);
+    stop(slope(1, 1, 65), &power_on_banked(0), 13);
     let mut image = unordered();
     image[0x7C] = image[0x7C] ^ 0x10;
-    stop_from_banked(slope(4, 7, 95), image, 14);
+    stop(slope(4, 7, 95), &image, 14);
 }
 
 fn power_on_seven(select: u8) -> [u8; 768] {
@@ -241,30 +228,20 @@ pub fn unordered_seven() -> [u8; 768] {
     image
 }
 
-fn stops_from_seven(plan: Plan, old: [u8; 768]) {
-    let mut new = [0u8; 768];
-    stops(plan, &old, &mut new, 27);
-}
-
-fn stop_from_seven(plan: Plan, old: [u8; 768], count: usize) {
-    let mut new = [0u8; 768];
-    stop(plan, &old, &mut new, count);
-}
-
 // Of the unordered image with one byte of its identity changed.
 fn stop_with(at: usize, byte: u8) {
     let mut image = unordered_seven();
     put(&mut image, at, byte);
-    stop_from_seven(seven(4), image, 25);
+    stop(seven(4), &image, 25);
 }
 
 // Of chip 5.
 fn seven_points() {
-    stops_from_seven(seven(1), power_on_seven(0x80));
-    stops_from_seven(seven(4), unordered_seven());
+    stops(seven(1), &power_on_seven(0x80), 27);
+    stops(seven(4), &unordered_seven(), 27);
     // Images of another length: nothing is written.
-    stop_from_banked(seven(1), power_on_banked(0), 25);
-    stop_from_seven(slope(4, 1, 95), power_on_seven(0x80), 14);
+    stop(seven(1), &power_on_banked(0), 25);
+    stop(slope(4, 1, 95), &power_on_seven(0x80), 14);
     // Version 12h is confirmed, 13h is not, and the vendor byte's low half is not.
     stop_with(0x0F, 0x12);
     stop_with(0x0F, 0x13);

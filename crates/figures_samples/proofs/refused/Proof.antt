@@ -18,105 +18,6 @@ past : (n k : ℕ) → None-below n k → n ≤ k
 past zero k none = omega arith
 past (suc n) k none = omega (arith, past n k (none .0), none .1)
 
-paper-requires : tie.Need-paper-requires
-paper-requires c κs = search needs
-
-muddled-requires : tie.Need-muddled-requires
-muddled-requires c κs = search needs
-
-paper-requires-2 : tie.Need-paper-requires-2
-paper-requires-2 c κs = search needs
-
-paper-requires-3 : tie.Need-paper-requires-3
-paper-requires-3 c κs = search needs
-
-muddled-requires-2 : tie.Need-muddled-requires-2
-muddled-requires-2 c κs = search needs
-
-steps-requires : tie.Need-steps-requires
-steps-requires c κs = search needs
-
-paper-requires-4 : tie.Need-paper-requires-4
-paper-requires-4 c κs = search needs
-
-paper-requires-5 : tie.Need-paper-requires-5
-paper-requires-5 c κs = search needs
-
-muddled-requires-3 : tie.Need-muddled-requires-3
-muddled-requires-3 c κs = search needs
-
-slope-requires : tie.Need-slope-requires
-slope-requires c κs = search needs
-
-slope-requires-2 : tie.Need-slope-requires-2
-slope-requires-2 c κs = search needs
-
-slope-requires-3 : tie.Need-slope-requires-3
-slope-requires-3 c κs = search needs
-
-steps-requires-2 : tie.Need-steps-requires-2
-steps-requires-2 c κs = search needs
-
-steps-requires-3 : tie.Need-steps-requires-3
-steps-requires-3 c κs = search needs
-
-slope-requires-4 : tie.Need-slope-requires-4
-slope-requires-4 c κs = search needs
-
-slope-requires-5 : tie.Need-slope-requires-5
-slope-requires-5 c κs = search needs
-
-slope-requires-6 : tie.Need-slope-requires-6
-slope-requires-6 c κs = search needs
-
-slope-requires-7 : tie.Need-slope-requires-7
-slope-requires-7 c κs = search needs
-
-slope-requires-8 : tie.Need-slope-requires-8
-slope-requires-8 c κs = search needs
-
-steps-requires-4 : tie.Need-steps-requires-4
-steps-requires-4 c κs = search needs
-
-counted-requires : tie.Need-counted-requires
-counted-requires c κs = search needs
-
-counted-requires-2 : tie.Need-counted-requires-2
-counted-requires-2 c κs = search needs
-
-counted-requires-3 : tie.Need-counted-requires-3
-counted-requires-3 c κs = search needs
-
-counted-requires-4 : tie.Need-counted-requires-4
-counted-requires-4 c κs = search needs
-
-counted-requires-5 : tie.Need-counted-requires-5
-counted-requires-5 c κs = search needs
-
-muddled-requires-4 : tie.Need-muddled-requires-4
-muddled-requires-4 c κs = search needs
-
-seven-requires : tie.Need-seven-requires
-seven-requires c κs = search needs
-
-seven-requires-2 : tie.Need-seven-requires-2
-seven-requires-2 c κs = search needs
-
-seven-requires-3 : tie.Need-seven-requires-3
-seven-requires-3 c κs = search needs
-
-seven-requires-4 : tie.Need-seven-requires-4
-seven-requires-4 c κs = search needs
-
-seven-requires-5 : tie.Need-seven-requires-5
-seven-requires-5 c κs = search needs
-
-seven-requires-6 : tie.Need-seven-requires-6
-seven-requires-6 c κs = search needs
-
-seven-requires-7 : tie.Need-seven-requires-7
-seven-requires-7 c κs = search needs
-
 returns : tie.Need-returns
 returns c = c .paper .ensures ∙ sym (ap refusedAt (c .before .match .keys1))
 
@@ -222,39 +123,39 @@ pub refused-spec : {M : Type 1} → statement M
 refused-spec =
     tie.close
     (tie.spec
-    paper-requires
-    muddled-requires
-    paper-requires-2
-    paper-requires-3
-    muddled-requires-2
-    steps-requires
-    paper-requires-4
-    paper-requires-5
-    muddled-requires-3
-    slope-requires
-    slope-requires-2
-    slope-requires-3
-    steps-requires-2
-    steps-requires-3
-    slope-requires-4
-    slope-requires-5
-    slope-requires-6
-    slope-requires-7
-    slope-requires-8
-    steps-requires-4
-    counted-requires
-    counted-requires-2
-    counted-requires-3
-    counted-requires-4
-    counted-requires-5
-    muddled-requires-4
-    seven-requires
-    seven-requires-2
-    seven-requires-3
-    seven-requires-4
-    seven-requires-5
-    seven-requires-6
-    seven-requires-7
+    (λ c κs. search needs)
+    (λ c κs. search needs)
+    (λ c κs. search needs)
+    (λ c κs. search needs)
+    (λ c κs. search needs)
+    (λ c κs. search needs)
+    (λ c κs. search needs)
+    (λ c κs. search needs)
+    (λ c κs. search needs)
+    (λ c κs. search needs)
+    (λ c κs. search needs)
+    (λ c κs. search needs)
+    (λ c κs. search needs)
+    (λ c κs. search needs)
+    (λ c κs. search needs)
+    (λ c κs. search needs)
+    (λ c κs. search needs)
+    (λ c κs. search needs)
+    (λ c κs. search needs)
+    (λ c κs. search needs)
+    (λ c κs. search needs)
+    (λ c κs. search needs)
+    (λ c κs. search needs)
+    (λ c κs. search needs)
+    (λ c κs. search needs)
+    (λ c κs. search needs)
+    (λ c κs. search needs)
+    (λ c κs. search needs)
+    (λ c κs. search needs)
+    (λ c κs. search needs)
+    (λ c κs. search needs)
+    (λ c κs. search needs)
+    (λ c κs. search needs)
     returns
     returns-2
     returns-3

@@ -11,25 +11,15 @@ Inv-loop table₀ table = table ≤ 11
 abbrev μ-loop : tie.MeasureT-loop
 μ-loop table₀ table = 11 - table
 
-loop-holds : tie.Need-loop-holds Inv-loop μ-loop
-loop-holds c = search needs
-
-played-4-requires : tie.Need-played-4-requires Inv-loop μ-loop
-played-4-requires c κs = search needs
-
-add-table : tie.Need-add-table Inv-loop μ-loop
-add-table c = search needs
-
-loop-less : tie.Need-loop-less Inv-loop μ-loop
-loop-less c = search needs
-
-loop-again : tie.Need-loop-again Inv-loop μ-loop
-loop-again c = search needs
-
-returns : tie.Need-returns Inv-loop μ-loop
-returns c = search needs
-
 pub all-played-of-4-spec : {M : Type 1} → statement M
 all-played-of-4-spec =
     tie.close
-    (tie.spec Inv-loop μ-loop loop-holds played-4-requires add-table loop-less loop-again returns)
+    (tie.spec
+    Inv-loop
+    μ-loop
+    (λ c. search needs)
+    (λ c κs. search needs)
+    (λ c. search needs)
+    (λ c. search needs)
+    (λ c. search needs)
+    (λ c. search needs))

@@ -35,18 +35,6 @@ abbrev μ-loop : tie.MeasureT-loop
 loop-holds : tie.Need-loop-holds Inv-loop μ-loop
 loop-holds c = ((omega arith, refl), refl, since-first _ _)
 
-shared-slice-read-again : tie.Need-shared-slice-read-again Inv-loop μ-loop
-shared-slice-read-again c = search needs
-
-again-requires : tie.Need-again-requires Inv-loop μ-loop
-again-requires c κs = search needs
-
-add-k : tie.Need-add-k Inv-loop μ-loop
-add-k c = search needs
-
-loop-less : tie.Need-loop-less Inv-loop μ-loop
-loop-less c = search needs
-
 loop-again : tie.Need-loop-again Inv-loop μ-loop
 loop-again c =
     let made = c .before .before in
@@ -58,9 +46,6 @@ loop-again c =
       search needs,
       one-more (a .counts .now) (l .k) here (made .again .ensures .again (a .image .now) (take (l .k) (a .counts .now)) (l .inv .2)),
     )
-
-same-length : tie.Need-same-length Inv-loop μ-loop
-same-length c = search needs
 
 returns : tie.Need-returns Inv-loop μ-loop
 returns c =
@@ -75,10 +60,10 @@ run-spec =
     Inv-loop
     μ-loop
     loop-holds
-    shared-slice-read-again
-    again-requires
-    add-k
-    loop-less
+    (λ c. search needs)
+    (λ c κs. search needs)
+    (λ c. search needs)
+    (λ c. search needs)
     loop-again
-    same-length
+    (λ c. search needs)
     returns)
