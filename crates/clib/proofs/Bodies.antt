@@ -13,18 +13,16 @@ use Rattle.refusal.specs.Answers.{tellsAmount}
 use Rattle.refusal.specs.Checks.{Check, first, roomChecks}
 use Rattle.refusal.proofs.Numbers.{numberOf-positive}
 use Rattle.refusal.proofs.Passed.{first-refused, told-refused, when-refused, same-told, same-left}
-use Rattle.pages.specs.Cards.{shapeOf, layoutOf}
+use Rattle.pages.specs.Cards.{layoutOf}
 use Rattle.curves.specs.declared.Plan.{Plan}
 use Rattle.plans.specs.declared.Asked.{Asked}
 use Rattle.plans.specs.declared.Asked.the-variants as asked
-use Rattle.bodies.specs.Bodies.{decoded}
 use Rattle.plans.specs.Contracts.{askPlanChecks, orderChecks, planChecks, AsksPlan, AsksPlanBy}
 use Rattle.records.specs.declared.Found.{Found}
 use Rattle.curves.specs.Values.{Sized}
 use Rattle.records.specs.Records.{encoded, planBy, planOf}
 use Rattle.records.specs.Contracts.{bodyChecks, bodyPlanChecks, writeChecks, TakesBody, WritesRecord, WritesRecordBy}
 use Rattle.records.proofs.Answers.{by-sized, whole-asked, whole-judged, plan-taken}
-use Rattle.bodies.proofs.Laws.{decoded-sized}
 use Rattle.scripts.specs.Scripts.{scriptFor}
 use Rattle.scripts.specs.Contracts.{scriptChecks, Scripts, ScriptsBy}
 use Rattle.plays.specs.Contracts.{startChecks, playChecks, Plays, PlaysBy}

@@ -4,7 +4,7 @@
 use Prim.Native.Nat.{ℕ, zero, suc, _+_, _-_, _*_, _/_, _^_, _≤_, _<_}
 use native.Mathlib.Nat.{mod-eq-of-lt}
 use native.Mathlib.Omega.{arith}
-use mathlib.Core.Path.{_≡_, refl, sym, ap, ap₂, subst, _∙_}
+use mathlib.Core.Path.{_≡_, refl, sym, ap, ap₂, _∙_}
 use mathlib.Core.Bool.{Bool, true, false, So, cond, true≢false, _&&_}
 use mathlib.Core.List.{List, [], _∷_, _++_, map, map-append, append-assoc}
 use borrow.Author.Tests.{leb-false, eqb-true, ltb-true, ltb-false, leb-true, le-leb}
@@ -16,13 +16,11 @@ use Rattle.pages.specs.declared.Masks.{Masks}
 use Rattle.pages.specs.declared.Register.{Register}
 use Rattle.pages.specs.declared.Shape.{Shape}
 use Rattle.pages.specs.declared.Shape.the-variants.{Slope, Steps}
-use Rattle.pages.specs.declared.Layout.{Layout}
-use Rattle.pages.specs.declared.Fan.{Fan}
 use Rattle.pages.specs.declared.Fan.the-variants.{Laid, Nothing}
 use Rattle.pages.specs.Banks.{noBank, selectsFrom}
 use Rattle.pages.specs.Rows.{every, Line, Table, positions, rowIn, withMasks, registerAt, noRegister, from, spreadAll, standsAt}
 use Rattle.pages.specs.Sheets.{longest, mostWrites, Sheet, missing, room, hasTableIn, tableIn, wholeIn, loaded, layout, laidIn, registerIn, stretchOf, groundIn}
-use Rattle.pages.specs.Cards.{sheetOf, cardOf, banksOf, sizeOf, rowOf, tablesOf, hasTable, tableOf, shapeOf, layoutOf, groundOf}
+use Rattle.pages.specs.Cards.{sheetOf, cardOf, sizeOf, rowOf, tablesOf, hasTable, tableOf, shapeOf, layoutOf, groundOf}
 use Rattle.pages.proofs.Every.{both, of-every, everywhere, map-at, distinct, apart}
 use Rattle.pages.proofs.Sound.{stands, reaches, reachesAt, separate, counts, pointed, sized, ofShape, both-or-neither, alike, inARow, isStretch, inStretches, brief, Sound, sound-sheet}
 

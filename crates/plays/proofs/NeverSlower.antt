@@ -21,7 +21,7 @@ use Rattle.curves.specs.Planned.{Curve, asks}
 use Rattle.plans.specs.declared.Asked.{Asked}
 use Rattle.plans.specs.declared.Asked.the-variants.{Speed}
 use Rattle.plans.specs.Plans.{held, plannedFor}
-use Rattle.plans.specs.Contracts.{planChecks, AsksImage, AsksPlan}
+use Rattle.plans.specs.Contracts.{AsksImage, AsksPlan}
 use Rattle.plans.proofs.Laws.{Accepted, passed-plan}
 use Rattle.plans.proofs.Unique.{tellsAsked-injective}
 use Rattle.scripts.specs.Scripts.{Pair, scriptOf}

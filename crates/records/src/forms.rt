@@ -6,7 +6,7 @@ ghost use mathlib.Core.Path.{_≡_};
 ghost use mathlib.Core.Bool.{cond, _&&_, _||_};
 ghost use mathlib.Core.List.{_++_};
 ghost use lib.Dec.{eqb};
-ghost use lib.ListN.{length, getD};
+ghost use lib.ListN.{getD};
 ghost use Rattle.pages.specs.Sheets.{longest};
 ghost use Rattle.records.specs.Records.{markOf, header, counting, bodySize};
 ghost use Rattle.records.specs.Contracts.{countOut};

@@ -3,7 +3,6 @@
 use Prim.Native.Nat.{_≤_}
 use native.Mathlib.Omega.{arith}
 use mathlib.Core.Path.{sym, ap}
-use borrow.Author.Needs.{needs}
 use lib.ListN.{List·getD-eq-default}
 use Rattle.pages.specs.declared.Chip.the-variants.{Nct7802y}
 use Rattle.pages.specs.Rows.{required, requiredIn}

@@ -1,6 +1,6 @@
 -- `w83793g::power_on` meets its contract: each array has the power-on values of its bank, by computation.
 -- Assumes nothing.
-use Prim.Native.Nat.{ℕ, _≤_}
+use Prim.Native.Nat.{ℕ}
 use native.Mathlib.Omega.{arith}
 use borrow.Author.Needs.{needs}
 use Rattle.pages.specs.Rows.{Row}

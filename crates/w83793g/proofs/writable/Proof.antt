@@ -1,6 +1,6 @@
 -- `w83793g::writable` meets its contract: each array has the bits that may be written of its bank, by computation.
 -- Assumes nothing.
-use Prim.Native.Nat.{ℕ, _≤_}
+use Prim.Native.Nat.{ℕ}
 use native.Mathlib.Omega.{arith}
 use borrow.Author.Needs.{needs}
 use Rattle.pages.specs.Rows.{Row}

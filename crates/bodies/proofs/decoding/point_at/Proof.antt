@@ -1,10 +1,7 @@
 -- `bodies::decoding::point_at` meets its contract: behind the last point there is 0.
 -- Assumes nothing.
-use Prim.Native.Nat.{_+_}
-use mathlib.Core.Path.{_∙_, sym, ap}
-use mathlib.Core.Bool.{Bool, cond}
+use mathlib.Core.Path.{_∙_}
 use borrow.Author.Tests.{lt-ltb, le-ltb}
-use lib.ListN.{getD}
 use borrow.Author.Needs.{needs}
 use Rattle.bodies.proofs.decoding.point_at.Statement.{statement}
 use Rattle.bodies.proofs.decoding.point_at.Tie as tie

@@ -4,7 +4,7 @@ use native.Mathlib.Omega.{arith}
 use Prim.Native.Nat.{ℕ, _-_}
 use mathlib.Core.Path.{sym, ap, _∙_}
 use lib.Dec.{leb}
-use lib.ListN.{getD, take}
+use lib.ListN.{take}
 use lib.Seq.{length-take-le, getD-take}
 use Rattle.curves.proofs.Walks.{last-at}
 use borrow.Author.Needs.{needs}
