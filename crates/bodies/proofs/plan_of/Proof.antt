@@ -10,7 +10,6 @@ enum-known-shape c = search needs
 slope-in-requires : tie.Need-slope-in-requires
 slope-in-requires c κs = search needs
 
--- /work/main/target/rlib/curves.rlib/interface/lang/src/lib.rt:8:65
 enum-told : tie.Need-enum-told
 enum-told c = search needs
 
