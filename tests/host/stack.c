@@ -68,21 +68,27 @@ static void tell(const char *name, void (*call)(void))
     printf("stack %-19s %6zu bytes\n", name, depth(call) - depth(nothing));
 }
 
-/* The calls that take a chip, each of them accepted. */
-static void tell_chip(size_t image_length, const uint8_t *plan, size_t plan_length)
+/* The calls that take a chip and an image, each of them accepted, but that chip 3 confirms none. */
+static void tell_image(uint8_t number, size_t image_length)
 {
-    size_t k;
-    chip = plan[2];
+    chip = number;
     length = image_length;
-    record = plan;
-    used = plan_length;
-    for (k = 0; k + used <= sizeof input; k += used)
-        memcpy(input + k, record, used);
     printf("chip %u\n", chip);
     tell("yk_reset", do_reset);
     tell("yk_write", do_write);
     tell("yk_read", do_read);
     tell("yk_identity", do_identity);
+}
+
+/* And those that take a plan. */
+static void tell_chip(size_t image_length, const uint8_t *plan, size_t plan_length)
+{
+    size_t k;
+    tell_image(plan[2], image_length);
+    record = plan;
+    used = plan_length;
+    for (k = 0; k + used <= sizeof input; k += used)
+        memcpy(input + k, record, used);
     tell("yk_read_record", do_read_record);
     tell("yk_write_record", do_write_record);
     tell("yk_asked_of_plan", do_asked_of_plan);
@@ -104,6 +110,7 @@ int main(void)
     tell("yk_run", do_run);
     tell("yk_acknowledge", do_acknowledge);
     tell_chip(YK_IMAGE, record_1, sizeof record_1);
+    tell_image(3, YK_IMAGE);
     tell_chip(YK_IMAGE_CHIP_4, record_4, sizeof record_4);
     tell_chip(YK_IMAGE_CHIP_5, record_5, sizeof record_5);
     return 0;

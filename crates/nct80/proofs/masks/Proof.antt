@@ -1,20 +1,25 @@
--- `nct80::masks` meets its contract: the array is a column of the card and no line clears a bit, by computation.
+-- `nct80::masks` meets its contract: the row has the writable bits, and no line of the card clears a bit.
 -- Assumes nothing.
-use mathlib.Core.Path.{refl}
+use Prim.Native.Nat.{ℕ}
+use mathlib.Core.Path.{refl, ap, _∙_}
 use borrow.Author.Needs.{needs}
 use Rattle.pages.specs.declared.Chip.the-variants.{Nct80}
-use Rattle.pages.specs.Rows.{column}
+use Rattle.pages.specs.Rows.{row, masksIn, maskOf}
 use Rattle.pages.specs.Cards.{sheetOf, rowOf}
 use Rattle.pages.specs.Nct80.{card}
-use Rattle.pages.proofs.Lines.{masks-at, masks-beyond, clearless}
+use Rattle.pages.proofs.Lines.{clearless}
 use Rattle.nct80.proofs.masks.Statement.{statement}
 use Rattle.nct80.proofs.masks.Tie as tie
 
+returns : tie.Need-returns
+unfolding sheetOf card
+returns c =
+    let position = c .before .args .position in
+    record {
+      answer =
+          ap maskOf (c .«row-at» .ensures .0)
+          ∙ ap (λ (clears : ℕ). masksIn (row (rowOf Nct80 position .writable) clears 0x00)) (clearless Nct80 position refl);
+    }
+
 pub masks-spec : {M : Type 1} → statement M
-unfolding sheetOf rowOf column card
-masks-spec =
-    tie.close
-    (tie.spec
-    (λ c. record { answer = masks-beyond Nct80 (c .before .args .position) (c .if1 .taken) })
-    (λ c. search needs)
-    (λ c. record { answer = masks-at Nct80 (c .before .args .position) 0x00 (clearless Nct80 (c .before .args .position) refl) (c .if1 .left) }))
+masks-spec = tie.close (tie.spec (λ c κs. search needs) returns)

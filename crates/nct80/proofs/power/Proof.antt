@@ -1,20 +1,8 @@
--- `nct80::power` meets its contract: the array is the power-on column of the card, by computation.
+-- `nct80::power` meets its contract: the row has the power-on value.
 -- Assumes nothing.
 use borrow.Author.Needs.{needs}
-use Rattle.pages.specs.declared.Chip.the-variants.{Nct80}
-use Rattle.pages.specs.Rows.{column}
-use Rattle.pages.specs.Sheets.{powerOnIn}
-use Rattle.pages.specs.Cards.{sheetOf}
-use Rattle.pages.specs.Nct80.{card}
-use Rattle.pages.proofs.Lines.{power-at, power-beyond}
 use Rattle.nct80.proofs.power.Statement.{statement}
 use Rattle.nct80.proofs.power.Tie as tie
 
 pub power-spec : {M : Type 1} → statement M
-unfolding sheetOf powerOnIn column card
-power-spec =
-    tie.close
-    (tie.spec
-    (λ c. record { answer = power-beyond Nct80 (c .before .args .position) (c .if1 .taken) })
-    (λ c. search needs)
-    (λ c. record { answer = power-at Nct80 (c .before .args .position) (c .if1 .left) }))
+power-spec = tie.close (tie.spec (λ c κs. search needs) (λ c. record { answer = c .«row-at» .ensures .1 }))
