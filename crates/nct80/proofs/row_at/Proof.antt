@@ -1,13 +1,12 @@
 -- `nct80::row_at` meets its contract: an arm tells the row of every address that comes to it, by computation over the addresses of the arm.
 -- Assumes nothing.
-use Prim.Native.Nat.{ℕ, suc, _-_, _≤_, _<_, zero-le}
+use Prim.Native.Nat.{ℕ, suc, _-_, _≤_, _<_}
 use native.Mathlib.Omega.{arith}
 use mathlib.Core.Path.{_≡_, refl, sym, ap, subst, _∙_}
 use mathlib.Core.Bool.{Bool, So, _&&_}
 use mathlib.Core.Logic.{_⊎_, inl, inr, ⊎-elim}
 use mathlib.Core.List.{List}
 use borrow.Author.Tests.{eqb-true}
-use lib.Arith.{lt-of-le-ne}
 use lib.Dec.{eqb}
 use lib.ListN.{length, getD}
 use Rattle.pages.specs.declared.Chip.the-variants.{Nct80}
@@ -56,16 +55,12 @@ alone : (address : ℕ) {writable power position : ℕ} → So (tells writable p
 alone address {writable} {power} {position} t e =
     passes writable power position (subst (λ (a : ℕ). So (tells writable power a)) (sym e) t)
 
--- behind the last line there is no register
-unlisted : {position : ℕ} → 0x3F ≤ position → Told 0x00 0x00 position
+-- behind the last line, that of 3Eh, there is no register
+unlisted : {position : ℕ} → 0x3E ≤ position → (position ≡ 0x3E → ⊥) → Told 0x00 0x00 position
 unfolding sheetOf rowOf card
-unlisted {position} h =
-    let none = row-beyond 0x3F 0x00 card refl position h in
+unlisted {position} low other =
+    let none = row-beyond 0x3F 0x00 card refl position (omega (arith, low, other)) in
     (ap (λ (r : Row). r .writable) (sym none), ap (λ (r : Row). r .power) (sym none))
-
--- an address from k on that is not k is behind it
-past : {k n : ℕ} → k ≤ n → (n ≡ k → ⊥) → suc k ≤ n
-past h r = lt-of-le-ne h (λ e. r (sym e))
 
 neither : {A B : Type 0} → (A ⊎ B → ⊥) → (A → ⊥) × (B → ⊥)
 neither r = (λ a. r (inl a), λ b. r (inr b))
@@ -75,7 +70,7 @@ rate-programming : tie.Need-returns-9
 unfolding sheetOf rowOf card
 rate-programming c =
     let r = c .match2 .rest in
-    told 0x09 0x09 refl (past (past (past (past (c .before .before .if2 .left) (r .0 .0 .0 .1)) (r .0 .0 .1)) (r .0 .1)) (r .1)) (c .before .if3 .taken)
+    told 0x09 0x09 refl (omega (arith, c .before .before .if2 .left, r .0 .0 .0 .1, r .0 .0 .1, r .0 .1, r .1)) (c .before .if3 .taken)
 
 -- .. and so are 3Ch and 3Dh, from 38h on
 fan-counts : tie.Need-returns-15
@@ -83,8 +78,7 @@ unfolding sheetOf rowOf card
 fan-counts c =
     let limits = neither (c .match3 .rest .0 .1) in
     let hystereses = neither (c .match3 .rest .1) in
-    let from-3C = past (past (past (past (c .before .before .if6 .left) (limits .0)) (hystereses .0)) (limits .1)) (hystereses .1) in
-    told 0x3C 0x3D refl from-3C (c .before .if7 .taken)
+    told 0x3C 0x3D refl (omega (arith, c .before .before .if6 .left, limits, hystereses)) (c .before .if7 .taken)
 
 -- 00h and 3Eh are tested first, and of a range its end alone: it begins where the one before it ends.
 pub row-at-spec : {M : Type 1} → statement M
@@ -94,7 +88,7 @@ row-at-spec =
     (tie.spec
     (λ c. alone 0x00 refl (c .match .keys1))
     (λ c. alone 0x3E refl (c .match .keys2))
-    (λ c. told 0x01 0x02 refl (past zero-le (c .before .match .rest .0 .1)) (c .if1 .taken))
+    (λ c. told 0x01 0x02 refl (omega (arith, c .before .match .rest .0 .1)) (c .if1 .taken))
     (λ c. told 0x03 0x04 refl (c .before .if1 .left) (c .if2 .taken))
     (λ c. alone 0x05 refl (c .match2 .keys1))
     (λ c. alone 0x06 refl (c .match2 .keys2))
@@ -107,4 +101,4 @@ row-at-spec =
     (λ c. ⊎-elim (alone 0x38 refl) (alone 0x3A refl) (c .match3 .keys1))
     (λ c. ⊎-elim (alone 0x39 refl) (alone 0x3B refl) (c .match3 .keys2))
     fan-counts
-    (λ c. unlisted (past (c .if7 .left) (c .before .before .before .before .before .before .before .match .rest .1))))
+    (λ c. unlisted (c .if7 .left) (c .before .before .before .before .before .before .before .match .rest .1)))
