@@ -189,10 +189,15 @@ static inline uint8_t yk_facts(uint64_t answer) {
 /*
  * Writes one byte as the chip would take it: writable bits are replaced, write-one-to-clear bits
  * are cleared where byte has a 1, the other bits keep. A register that can't be written keeps
- * its byte, and the call is accepted all the same.
+ * its byte, and the call is accepted all the same. Of 00h of chip 3 bit 5 clears itself: it is
+ * stored as 0.
  * Refusals: 3, 8. Value: 0. Afterwards: only the byte at which the write lands may have changed:
  * image[address], or of chips 4 and 5 that address in the bank selected before the call (see
- * BANKS).
+ * BANKS). The one exception is 00h of chip 3 where byte has bit 7 set, whatever it was before: that
+ * initializes the chip. Then every writable bit of the image has its power-on value, so that 00h
+ * holds 08h, and the bits that can't be written are as they were: 01h, 02h, 20h to 29h, 3Eh, bit 0
+ * of 06h, bits 7 to 1 of 07h, bits 7 to 3 of 09h, and every address that the sheet doesn't list. It
+ * is no acknowledge: the facts of a watch stay.
  */
 uint64_t yk_write(uint8_t chip, uint8_t *image, size_t image_length, uint8_t address, uint8_t byte);
 

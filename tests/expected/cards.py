@@ -34,6 +34,12 @@ assert all(CARDS[chip][256 * bank + at] == (0, 0, 0) for chip in EVERYWHERE for 
 # The select registers: of chip 5 HBACS is writable beside the bank's bits, and on at power-on.
 assert CARDS[4][SELECT[4]] == (0x07, 0x00, 0x00) and CARDS[5][SELECT[5]] == (0x87, 0x00, 0x80)
 
+# A register whose write does more than its row says: where it stands, its initialization bit, and the bits that read 0 after any write to it. Source
+# document 004, 00h: "Setting this bit to 1 resets the main user writeable registers to their power on default values"; "After 10 ms this bit self
+# clears", of bit 5. The row itself is as it was, and no bit of that card clears on one.
+INITIALIZATION = {3: (0x00, 0x80, 0x20)}
+assert CARDS[3][0x00] == (0xFF, 0x00, 0x08) and all(clears == 0x00 for _, clears, _ in CARDS[3])
+
 
 def reset(chip):
     """A new image with the power-on column."""
@@ -55,7 +61,8 @@ def read(chip, image, address):
 
 
 def write(chip, image, address, byte):
-    """Writable bits replaced, clear bits cleared where a 1 is written, the others kept. In a bank that the sheet lacks "writes change nothing"."""
+    """Writable bits replaced, clear bits cleared where a 1 is written, the others kept. In a bank that the sheet lacks "writes change nothing". "After a
+    write that sets" an initialization bit "all writable bits of the card, that bit included, have power-on values; read-only bits [...] stay"."""
     at = place(chip, image, address)
     if at is None:
         return
@@ -68,6 +75,12 @@ def write(chip, image, address, byte):
         elif not (clears & bit and byte & bit):
             bits |= image[at] & bit
     image[at] = bits
+    own, initializes, zero = INITIALIZATION.get(chip, (None, 0, 0))
+    if at == own:
+        image[at] &= 0xFF - zero
+        if byte & initializes:
+            for position, (writable, _, power_on) in enumerate(CARDS[chip]):
+                image[position] = image[position] & (0xFF - writable) | power_on & writable
 
 
 # The bits that identity names, and what they hold, by position; where there is a choice, one of these. Chip 4: "from its vendor, chip and device

@@ -13,14 +13,14 @@ import sys
 sys.dont_write_bytecode = True
 
 from curves import curves
-from images import identity_bits, identity_in_banks, identity_takes, image_calls, no_identity, on_the_bus, rows, stored
+from images import identity_bits, identity_in_banks, identity_takes, image_calls, initialization, no_identity, on_the_bus, rows, stored
 from readings import inputs, right_aligned, sensors, temperatures, voltages
 from records import records
 from scripts import scripts
 from watch import watches
 
 PROGRAMS = {
-    "figures_chips": (rows, image_calls, stored, on_the_bus, identity_bits, identity_in_banks, identity_takes, no_identity),
+    "figures_chips": (rows, image_calls, stored, on_the_bus, initialization, identity_bits, identity_in_banks, identity_takes, no_identity),
     "figures_readings": (temperatures, sensors, voltages, right_aligned, inputs),
     "figures_watch": (watches,),
     "figures_plans": (curves,),

@@ -96,13 +96,17 @@ def bus_write(chip, image, address, byte):
     print("bus chip %d write %02X %02X changed%s" % (chip, address, byte, changes(old, image)))
 
 
+def bus_reads(chip, image, then):
+    for at, holds in then.items():
+        assert read(chip, image, at) == holds
+        print("bus chip %d read %02X byte %02X" % (chip, at, holds))
+
+
 def bus(chip):
     image = reset(chip)
     for (address, byte), then in EXAMPLES[chip]:
         bus_write(chip, image, address, byte)
-        for at, holds in then.items():
-            assert read(chip, image, at) == holds
-            print("bus chip %d read %02X byte %02X" % (chip, at, holds))
+        bus_reads(chip, image, then)
     (before, byte, after), read_only = KEPT[chip]
     image[SELECT[chip]] = before
     bus_write(chip, image, SELECT[chip], byte)
@@ -139,6 +143,38 @@ def on_the_bus():
     for chip in SELECT:
         bus(chip)
         banks(chip)
+
+
+# What an initialization leaves in the registers of chip 3 whose eight bits are all writable. Bit 0 of 06h, bits 7 to 1 of 07h and 7 to 3 of 09h aren't.
+DEFAULTS = {0x00: 0x08, 0x03: 0x00, 0x04: 0x00, 0x05: 0x14, 0x08: 0x00, **dict.fromkeys(range(0x2A, 0x38), 0x00), 0x38: 0x55, 0x39: 0x4B, 0x3A: 0x55,
+            0x3B: 0x4B, 0x3C: 0xFF, 0x3D: 0xFF}
+
+
+def put(image, held):
+    return [held.get(at, byte) for at, byte in enumerate(image)]
+
+
+def only(chip, image, address, byte, then):
+    """A write after which these positions hold these bytes, and every other one what it held."""
+    want = put(image, then)
+    bus_write(chip, image, address, byte)
+    assert image == want
+
+
+def initialization():
+    """The worked example, and bit 5 of 00h, which is to "read 0 after the write"; an image where bit 7 was set before; 00h with bit 7 clear, and bit 7 of
+    another register. Of chips 1 and 2 bit 7 of FCh and of 00h is stored: FCh has that writable bit alone, 00h has bits 7, 6 and 0."""
+    image = put([0x5A] * 256, {0x01: 0x55, 0x08: 0x7F, 0x20: 0x33, 0x2A: 0x80, 0x90: 0xAA})
+    only(3, image, 0x00, 0xC1, {**DEFAULTS, 0x06: 0x00, 0x07: 0x5A, 0x09: 0x58})
+    bus_reads(3, image, {0x00: 0x08, 0x01: 0x55, 0x05: 0x14, 0x06: 0x00, 0x08: 0x00, 0x20: 0x33, 0x2A: 0x00, 0x3E: 0x5A, 0x90: 0xAA})
+    only(3, image, 0x00, 0x21, {0x00: 0x01})
+    only(3, image, 0x00, 0x7F, {0x00: 0x5F})
+    only(3, [0xFF] * 256, 0x00, 0x80, {**DEFAULTS, 0x06: 0x01, 0x07: 0xFE, 0x09: 0xF8})
+    image = [0x5A] * 256
+    only(3, image, 0x00, 0x7F, {0x00: 0x5F})
+    only(3, image, 0x08, 0x80, {0x08: 0x80})
+    only(1, [0x5A] * 256, 0xFC, 0xFF, {0xFC: 0xDA})
+    only(2, [0x5A] * 256, 0x00, 0xFF, {0x00: 0xDB})
 
 
 def seen(chip, image):

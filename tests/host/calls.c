@@ -1,5 +1,5 @@
-/* Every function once or more through include/yerkhulbaz.h, at figures of the rules paper and of
- * chips 4 and 5: the prototypes are those of the library. */
+/* Every function once or more through include/yerkhulbaz.h, at figures of the rules paper, of the
+ * initialization bit and of chips 4 and 5: the prototypes are those of the library. */
 #include "yerkhulbaz.h"
 
 #include <stdio.h>
@@ -44,6 +44,41 @@ static const char text_5[] = "plan 1 chip 5 table 1 writes 25\n"
 
 /* 81 degrees, no 12-bit step count, 75 degrees, a step below. */
 static const int16_t samples[4] = {1296, 2048, 1200, 1199};
+
+/* "The initialization bit", bit 7 of 00h of chip 3: the worked example. Then bit 5, which is to
+ * "read 0 after the write", and other chips, where bit 7 is stored. */
+static void initialization(void) {
+    static const uint8_t at[] = {0x00, 0x01, 0x05, 0x06, 0x08, 0x09,
+                                 0x20, 0x2A, 0x38, 0x3D, 0x3E, 0x90};
+    static const uint8_t then[] = {0x08, 0x55, 0x14, 0x00, 0x00, 0x58,
+                                   0x33, 0x00, 0x55, 0xFF, 0x5A, 0xAA};
+    uint8_t image[YK_IMAGE], kept[YK_IMAGE];
+    size_t k;
+
+    memset(image, 0x5A, sizeof image);
+    image[0x01] = 0x55;
+    image[0x08] = 0x7F;
+    image[0x20] = 0x33;
+    image[0x2A] = 0x80;
+    image[0x90] = 0xAA;
+    memcpy(kept, image, sizeof image);
+    same("a short image", yk_write(YK_NCT80, image, 255, 0x00, 0xC1), YK_REFUSED_IMAGE);
+    same("chip 6", yk_write(6, image, YK_IMAGE, 0x00, 0xC1), YK_REFUSED_CHIP);
+    same("the image", (uint64_t)memcmp(image, kept, sizeof image), 0);
+    same("initialization", yk_write(YK_NCT80, image, YK_IMAGE, 0x00, 0xC1), 0);
+    for (k = 0; k < sizeof at; k++) {
+        same("a byte after it", image[at[k]], then[k]);
+    }
+    memcpy(kept, image, sizeof image);
+    same("bit 5", yk_write(YK_NCT80, image, YK_IMAGE, 0x00, 0x21), 0);
+    same("00h", yk_read(YK_NCT80, image, YK_IMAGE, 0x00), packed(0, 0x01));
+    same("FCh of chip 1", yk_write(YK_NCT7802Y, image, YK_IMAGE, 0xFC, 0xFF), 0);
+    same("its byte", image[0xFC], 0xDA);
+    same("00h of chip 2", yk_write(YK_F75373S, image, YK_IMAGE, 0x00, 0xFE), 0);
+    same("its byte", image[0x00], 0xC0);
+    kept[0xFC] = 0xDA;
+    same("every other byte", (uint64_t)memcmp(image + 1, kept + 1, sizeof image - 1), 0);
+}
 
 /* Every function that takes a chip, with chip 4, and those of its readings. */
 static void chip_4(void) {
@@ -304,6 +339,7 @@ int main(void) {
     same("text", yk_translate(record, sizeof record, out, sizeof out), packed(0, length));
     same("its bytes", (uint64_t)memcmp(out, text, length), 0);
     same("short text", yk_translate(record, sizeof record, out, length - 1), YK_REFUSED_OUTPUT);
+    initialization();
     chip_4();
     chip_5();
     return failed;

@@ -1,4 +1,4 @@
-//! What the papers say of each chip, as data: card, banks, identity and fan tables.
+//! What the papers say of each chip, as data: card, banks, initialization, identity and fan tables.
 
 use crate::cards::{Row, F75373S, NCT7802Y, NCT7904D, NCT80, W83793G};
 use Held::{Is, OneOf};
@@ -7,6 +7,7 @@ pub struct Chip {
     /// A row for each byte of an image.
     pub card: &'static [Row],
     pub banks: Option<Banks>,
+    pub initialization: Option<Initialization>,
     /// Where, which bits, and what they hold. "Confirmed means all of them"; without a list it is
     /// never confirmed.
     pub identity: Option<&'static [(usize, u8, Held)]>,
@@ -30,6 +31,17 @@ pub struct Banks {
     pub bits: u8,
     /// The addresses that are seen in every bank.
     pub everywhere: &'static [u8],
+}
+
+/// "The initialization bit": a register whose write does more than its row of the card says.
+pub struct Initialization {
+    /// Where in the image the register stands.
+    pub at: usize,
+    /// "After a write that sets it all writable bits of the card, that bit included, have power-on
+    /// values."
+    pub bit: u8,
+    /// The bits that "read 0 after the write", whatever was written.
+    pub zero: u8,
 }
 
 /// What the bits of an identity register hold.
@@ -100,6 +112,8 @@ static CHIPS: [Chip; 5] = [
         card: &NCT7802Y,
         // "Its image is bank 0, which counts as selected whatever 00h holds."
         banks: None,
+        // FCh is no such register: the request is of "NCT80 register 00h" alone.
+        initialization: None,
         // "FDh holds 50h, FEh holds C3h, the upper four bits of FFh are 2, bits 4 to 0 of 05h are
         // zero, bits 5 to 0 of 08h are zero."
         identity: Some(&[
@@ -122,6 +136,8 @@ static CHIPS: [Chip; 5] = [
     Chip {
         card: &F75373S,
         banks: None,
+        // Nor is 00h here.
+        initialization: None,
         // "5Ah, 5Bh, 5Dh, 5Eh hold 02h, 04h, 19h, 34h."
         identity: Some(&[
             (0x5A, 0xFF, Is(0x02)), (0x5B, 0xFF, Is(0x04)), (0x5D, 0xFF, Is(0x19)), (0x5E, 0xFF, Is(0x34)),
@@ -141,6 +157,11 @@ static CHIPS: [Chip; 5] = [
     Chip {
         card: &NCT80,
         banks: None,
+        // "7 INITIALIZATION Setting this bit to 1 resets the main user writeable registers to their
+        // power on default values." "5 Chassis_clear [...] After 10 ms this bit self clears", and
+        // "since we model no time, let it read 0 after the write". Bit 4, which on a condition is
+        // "cleared once the pulse is inactive", is stored.
+        initialization: Some(Initialization { at: 0x00, bit: 0x80, zero: 0x20 }),
         // "For chip 3 always: it has no identity rule here."
         identity: None,
         form: &PLAIN,
@@ -157,6 +178,7 @@ static CHIPS: [Chip; 5] = [
         // 7Ah [7Bh, 7Ch] is available in all Bank Settings." FFh stands in "Bank 0, 1, 2, 3" there;
         // it is seen in bank 4 too, or no script could leave that bank.
         banks: Some(Banks { select: 0xFF, bits: 0x07, everywhere: &[0x7A, 0x7B, 0x7C, 0xFF] }),
+        initialization: None,
         // "Identity from its vendor, chip and device registers": 7.1.3 to 7.1.5 and 7.1.12 to
         // 7.1.14, "Default Value: 50", "C5", "5x".
         identity: Some(&[
@@ -188,6 +210,7 @@ static CHIPS: [Chip; 5] = [
         // Section 8.1.2.1: "6-3 Reserved. 2-0 BANK Select." Section 8.1.1: "Address 00, 0D, 0E, 0F
         // in all three register banks are reserved as ID, Bank Select registers."
         banks: Some(Banks { select: 0x00, bits: 0x07, everywhere: &[0x00, 0x0D, 0x0E, 0x0F] }),
+        initialization: None,
         // "The vendor byte in the image is the high one, whatever bank select holds": of the two in
         // 8.1.2.2, 5C and A3. 8.1.2.3: "Chip ID of W83793G is 7B". 8.1.2.4: "Device ID of W83793G B
         // Version is 11, C Version is 12".

@@ -1,6 +1,6 @@
 //! Every figure of the paper, asked of model and subject at once: the fixed points of the
 //! cards, "Figures to check against", the example text and "Mistakes we made or nearly made"; and
-//! those worked out for chips 4 and 5.
+//! those worked out for chips 4 and 5 and for the initialization bit.
 
 use crate::chips::chip_of;
 use crate::driver::{hold, Driver};
@@ -45,6 +45,7 @@ const FIVE_TEXT: &str = "plan 1 chip 5 table 1 writes 25\n00 02\n38 3F\n39 3F\n3
 pub fn run<S: Subject>(d: &mut Driver<S>) {
     cards(d);
     banks(d);
+    initialization(d);
     identities(d);
     one_of(d);
     readings(d);
@@ -74,7 +75,12 @@ fn row<S: Subject>(d: &mut Driver<S>, chip: u8, at: usize) -> (u8, u8, u8) {
         d.write(chip, &mut image, address, byte);
         !image[at]
     };
-    let (mask, clears) = (changed(0x00), changed(0xFF));
+    let (mask, mut clears) = (changed(0x00), changed(0xFF));
+    // FFh at 00h of chip 3 initializes: what it leaves there says nothing of clear bits.
+    if (chip, at) == (3, 0x00) {
+        hold(clears == !0x08, "00h after an initialization", &clears);
+        clears = 0;
+    }
     let mut image = vec![0x5A; length];
     d.reset(chip, &mut image);
     (mask, clears, image[at])
@@ -236,6 +242,73 @@ fn banks<S: Subject>(d: &mut Driver<S>) {
             let want = if length == model::image_length(chip) { 0 } else { 8 };
             let refusals = [d.write(chip, &mut image, 9, 9), d.read(chip, &image, 9).0, d.reset(chip, &mut image)];
             hold(refusals == [want; 3], "the length of an image", &(chip, length));
+        }
+    }
+}
+
+/// Where bytes stand, one after the other.
+type Stretch = (usize, &'static [u8]);
+
+/// An image of 256 bytes: one byte everywhere but in these stretches.
+fn image_with(byte: u8, stretches: &[Stretch]) -> Vec<u8> {
+    let mut image = vec![byte; 256];
+    for &(at, bytes) in stretches {
+        image[at..at + bytes.len()].copy_from_slice(bytes);
+    }
+    image
+}
+
+/// "The initialization bit", bit 7 of 00h of chip 3: the worked example, then an image where it was
+/// set before, and one of zeros. Read only are bit 0 of 06h, which stays 0 in two of the three,
+/// bits 7 to 1 of 07h and 7 to 3 of 09h.
+fn initialization<S: Subject>(d: &mut Driver<S>) {
+    // The byte written, that of the image, and where this is another, before and after.
+    let figures: [(u8, u8, &[Stretch], &[Stretch]); 3] = [
+        (
+            0xC1, 0x5A,
+            &[(0x01, &[0x55]), (0x08, &[0x7F]), (0x20, &[0x33]), (0x2A, &[0x80]), (0x90, &[0xAA])],
+            &[
+                (0x00, &[0x08, 0x55, 0x5A, 0x00, 0x00, 0x14, 0x00, 0x5A, 0x00, 0x58]),
+                (0x20, &[0x33]), (0x90, &[0xAA]),
+                (0x2A, &[0; 14]), (0x38, &[0x55, 0x4B, 0x55, 0x4B, 0xFF, 0xFF, 0x5A]),
+            ],
+        ),
+        (
+            0x80, 0xFF,
+            &[],
+            &[
+                (0x00, &[0x08, 0xFF, 0xFF, 0x00, 0x00, 0x14, 0x01, 0xFE, 0x00, 0xF8]),
+                (0x2A, &[0; 14]), (0x38, &[0x55, 0x4B, 0x55, 0x4B, 0xFF, 0xFF, 0xFF]),
+            ],
+        ),
+        (
+            0xFF, 0x00,
+            &[],
+            &[
+                (0x00, &[0x08, 0x00, 0x00, 0x00, 0x00, 0x14, 0x00, 0x00, 0x00, 0x00]),
+                (0x2A, &[0; 14]), (0x38, &[0x55, 0x4B, 0x55, 0x4B, 0xFF, 0xFF, 0x00]),
+            ],
+        ),
+    ];
+    for (written, byte, before, after) in figures {
+        let mut image = image_with(byte, before);
+        let mut want = image_with(byte, after);
+        hold(d.write(3, &mut image, 0x00, written) == 0, "it is accepted", &written);
+        hold(image == want, "what an initialization leaves", &(written, &image));
+        // With bit 7 clear 00h alone changes: bit 5 reads 0, bit 4 is stored.
+        for (written, then) in [(0x21, 0x01), (0x7F, 0x5F), (0x30, 0x10), (0x20, 0x00)] {
+            d.write(3, &mut image, 0x00, written);
+            want[0x00] = then;
+            hold(image == want, "00h alone", &(written, &image));
+        }
+    }
+    // "Each lent buffer holds what it held."
+    for (chip, length, want) in [(3, 255, 8), (3, 257, 8), (0, 256, 3), (6, 256, 3)] {
+        for written in [0xC1, 0x21] {
+            let mut image = vec![0x5A; length];
+            let refusal = d.write(chip, &mut image, 0x00, written);
+            let kept = image.iter().all(|byte| *byte == 0x5A);
+            hold(refusal == want && kept, "a refused write", &(chip, length, written));
         }
     }
 }

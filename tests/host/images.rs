@@ -27,8 +27,8 @@ fn place(chip: &Chip, image: &[u8], address: u8) -> Option<usize> {
 }
 
 /// "A byte write to an address replaces the writable bits, clears those clear bits where a
-/// 1 is written, and keeps the others. Every other address keeps its byte." In a bank the sheet
-/// lacks "writes change nothing".
+/// 1 is written, and keeps the others. Every other address keeps its byte", but where a write sets
+/// the initialization bit. In a bank the sheet lacks "writes change nothing".
 pub fn write(chip: u8, image: &mut [u8], address: u8, byte: u8) -> u32 {
     let chip = match image_of(chip, image.len()) {
         Ok(chip) => chip,
@@ -38,8 +38,21 @@ pub fn write(chip: u8, image: &mut [u8], address: u8, byte: u8) -> u32 {
         let (writable, clears, _) = chip.card[at];
         let kept = image[at] & !writable & !(clears & byte);
         image[at] = kept | (byte & writable);
+        if let Some(own) = chip.initialization.as_ref().filter(|own| own.at == at) {
+            image[at] &= !own.zero;
+            if byte & own.bit != 0 {
+                initialize(chip, image);
+            }
+        }
     }
     0
+}
+
+/// "All writable bits of the card [...] have power-on values; read-only bits [...] stay."
+fn initialize(chip: &Chip, image: &mut [u8]) {
+    for (byte, (writable, _, power_on)) in image.iter_mut().zip(chip.card) {
+        *byte = *byte & !writable | power_on & writable;
+    }
 }
 
 /// "A read returns the byte and changes nothing." In a bank the sheet lacks "reads give 0".

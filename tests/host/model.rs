@@ -1,8 +1,8 @@
-//! A plain model of the base and of chips 4 and 5, written from the rules paper, the requests for
-//! these chips and the data sheets alone. Every function answers every input. 0 means accepted; any
-//! other number is the paper's refusal number. "A refusal returns its number and zero in every
-//! other part of the answer (a watch comes back unchanged), and each lent buffer holds what it
-//! held."
+//! A plain model of the base, of chips 4 and 5 and of chip 3's initialization bit, written from the
+//! rules paper, the requests for these and the data sheets alone. Every function answers every
+//! input. 0 means accepted; any other number is the paper's refusal number. "A refusal returns its
+//! number and zero in every other part of the answer (a watch comes back unchanged), and each lent
+//! buffer holds what it held."
 
 use crate::chips::{chip_of, Chip, Curve, COUNTED, PLAIN};
 use crate::images::image_of;

@@ -27,6 +27,7 @@ static const uint8_t record_5[] = {0x43, 0x51, 5,    3,    0x07, 0x1E, 0x23, 0x2
 
 static void nothing(void) {}
 static void do_write(void) { answer = yk_write(chip, image, length, 0x91, 0xFF); }
+static void do_initialize(void) { answer = yk_write(chip, image, length, 0x00, 0x80); }
 static void do_read(void) { answer = yk_read(chip, image, length, 0x91); }
 static void do_reset(void) { answer = yk_reset(chip, image, length); }
 static void do_identity(void) { answer = yk_identity(chip, image, length); }
@@ -111,6 +112,7 @@ int main(void)
     tell("yk_acknowledge", do_acknowledge);
     tell_chip(YK_IMAGE, record_1, sizeof record_1);
     tell_image(3, YK_IMAGE);
+    tell("yk_write, bit 7", do_initialize);
     tell_chip(YK_IMAGE_CHIP_4, record_4, sizeof record_4);
     tell_chip(YK_IMAGE_CHIP_5, record_5, sizeof record_5);
     return 0;

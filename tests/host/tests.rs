@@ -17,6 +17,7 @@ pub fn run<S: Subject>(d: &mut Driver<S>, seed: u64, rounds: usize) {
     every_body(d, r);
     every_count(d, r);
     every_write(d, r);
+    every_initialization(d, r);
     every_select(d, r);
     selects(d, r);
     every_flip(d);
@@ -152,16 +153,82 @@ fn every_count<S: Subject>(d: &mut Driver<S>, r: &mut Random) {
     }
 }
 
-/// Every address and byte of the chips without banks on random images.
+/// Every address and byte of the chips without banks on random images. "Every other address keeps
+/// its byte", but for 00h of chip 3 where the initialization bit is written as 1.
 fn every_write<S: Subject>(d: &mut Driver<S>, r: &mut Random) {
     for chip in 1..=3 {
         for address in 0..=255 {
             let mut image = r.bytes(model::image_length(chip));
             for byte in 0..=255 {
                 image[usize::from(address)] = r.byte();
+                let mut before = image.clone();
                 d.write(chip, &mut image, address, byte);
+                before[usize::from(address)] = image[usize::from(address)];
+                let initializes = (chip, address) == (3, 0x00) && byte >= 0x80;
+                hold(initializes || image == before, "every other address", &(chip, address, byte));
             }
             hold(d.read(chip, &image, address) == (0, image[usize::from(address)]), "read", &address);
+        }
+    }
+}
+
+/// What an initialization leaves of a byte of chip 3: the sheet's default where that says "RW".
+fn initialized(address: u8, held: u8) -> u8 {
+    match address {
+        0x00 => 0x08,
+        0x03 | 0x04 | 0x08 | 0x2A..=0x37 => 0x00,
+        0x05 => 0x14,
+        // "0 OS_status [...] RO", "7:1 Reserved RO", "7:3 Reserved RO".
+        0x06 => held & 0x01,
+        0x07 => held & 0xFE,
+        0x09 => held & 0xF8,
+        0x38 | 0x3A => 0x55,
+        0x39 | 0x3B => 0x4B,
+        0x3C | 0x3D => 0xFF,
+        _ => held,
+    }
+}
+
+/// Every byte to 00h of chip 3, bit 7 off and on before: "after a write that sets it all writable
+/// bits of the card, that bit included, have power-on values; read-only bits [...] stay", and bit 5
+/// is to "read 0 after the write". To 00h of the other chips, of chip 4 in each bank, and to FCh of
+/// chip 1: their writable bits are stored, and no other byte changes.
+fn every_initialization<S: Subject>(d: &mut Driver<S>, r: &mut Random) {
+    let mut images = vec![vec![0x5A; 256], vec![0xFF; 256], vec![0x00; 256], power_on(d, 3)];
+    images.extend((0..16).map(|_| r.bytes(256)));
+    for mut before in images {
+        for held in [before[0x00], 0x00, 0x80, 0xFF] {
+            before[0x00] = held;
+            for byte in 0..=255 {
+                let mut image = before.clone();
+                let refusal = d.write(3, &mut image, 0x00, byte);
+                let mut want = before.clone();
+                if byte < 0x80 {
+                    want[0x00] = byte & 0xDF;
+                } else {
+                    (0..=255).zip(&mut want).for_each(|(at, held)| *held = initialized(at, *held));
+                }
+                hold(refusal == 0 && image == want, "the initialization bit", &(byte, &before));
+            }
+        }
+    }
+    // Chip, address, where it lands, and the writable bits there.
+    let others = [
+        (1, 0x00, 0x000, 0x01), (1, 0xFC, 0x0FC, 0x80), (2, 0x00, 0x000, 0xC1),
+        (4, 0x00, 0x000, 0xBB), (4, 0x00, 0x100, 0xFF), (4, 0x00, 0x200, 0x87),
+        (4, 0x00, 0x300, 0x0F), (4, 0x00, 0x400, 0x0F), (5, 0x00, 0x000, 0x87),
+    ];
+    for (chip, address, at, mask) in others {
+        let mut image = r.bytes(model::image_length(chip));
+        for byte in 0..=255u8 {
+            image[at] = r.byte();
+            if chip == 4 {
+                image[0xFF] = (at / 256) as u8;
+            }
+            let mut want = image.clone();
+            want[at] = image[at] & !mask | byte & mask;
+            let refusal = d.write(chip, &mut image, address, byte);
+            hold(refusal == 0 && image == want, "no other chip is initialized", &(chip, at, byte));
         }
     }
 }

@@ -1,9 +1,11 @@
 // What the chips' pages say, looked up in the crate of the chip.
 use pages::Chip;
+use pages::Effects;
 use pages::Fan;
 use pages::Ground;
 use pages::Layout;
 use pages::Masks;
+use pages::NO_EFFECTS;
 use pages::NO_GROUND;
 use pages::NO_REGISTER;
 use pages::NOTHING;
@@ -13,7 +15,7 @@ use pages::Required;
 use pages::Selector;
 use pages::Shape;
 use pages::Sizes;
-ghost use Rattle.pages.specs.Contracts.{Names, Finds, PowersOn, TellsSizes, Requires, Lays, LaysOut, Stands, Selects, Positions};
+ghost use Rattle.pages.specs.Contracts.{Names, Finds, Acts, PowersOn, TellsSizes, Requires, Lays, LaysOut, Stands, Selects, Positions};
 
 // How many bytes an image has at most.
 pub const GREATEST: usize = 1280;
@@ -42,6 +44,19 @@ pub fn masks_of(chip: Chip, position: usize) -> Masks
         Chip::Nct80 => nct80::masks(position),
         Chip::Nct7904d => nct7904d::masks(position),
         Chip::W83793g => w83793g::masks(position),
+    }
+}
+
+// What bits of a register of the image do, where a 1 is written, beside being stored.
+pub fn effects_of(chip: Chip, position: usize) -> Effects
+    ensures { λ r. ⌜ Acts chip position r ⌝ }
+{
+    match chip {
+        Chip::Nct7802y => NO_EFFECTS,
+        Chip::F75373s => NO_EFFECTS,
+        Chip::Nct80 => nct80::effects(position),
+        Chip::Nct7904d => NO_EFFECTS,
+        Chip::W83793g => NO_EFFECTS,
     }
 }
 

@@ -19,7 +19,7 @@ use Rattle.pages.specs.declared.Layout.{Layout}
 use Rattle.pages.specs.Rows.{masksIn, requiredIn, column, inOneRow, standsAt}
 use Rattle.pages.specs.Banks.{oneBank, standsIn}
 use Rattle.pages.specs.Sheets.{mostPoints, longest, sizesIn, missing, layout, goesWith, selectorIn}
-use Rattle.pages.specs.Cards.{sheetOf, banksOf, chipOf, chipNumber, unknown, hasTable, rowOf, layoutOf, groundOf, tellsNamed, tellsFan}
+use Rattle.pages.specs.Cards.{sheetOf, banksOf, chipOf, chipNumber, unknown, hasTable, rowOf, effectsOf, layoutOf, groundOf, tellsNamed, tellsFan}
 use Rattle.pages.specs.Contracts.{Names, Lays}
 use Rattle.cards.proofs.Told.{names-told, lays-told}
 use Rattle.pages.specs.Identity.{confirmed}
@@ -91,6 +91,7 @@ demand-1 =
       number = λ refusal. record { answer = numberOf refusal; kept = record { answer = refl } };
       chip-of = named-answered;
       masks-of = λ chip position. record { answer = masksIn (rowOf chip position); kept = record { answer = refl } };
+      effects-of = λ chip position. record { answer = effectsOf chip position; kept = record { answer = refl } };
       power-on-of = λ chip position. record { answer = rowOf chip position .power; kept = record { answer = refl } };
       sizes-of = λ chip. record { answer = sizesIn (sheetOf chip); kept = record { answer = refl } };
       required-of = λ chip k. record { answer = requiredIn (sheetOf chip .identity) k; kept = record { answer = refl } };

@@ -26,7 +26,7 @@ use Rattle.pages.specs.declared.Shape.{Shape}
 use Rattle.pages.specs.Banks.{oneBank}
 use Rattle.pages.specs.Sheets.{missing, layout}
 use Rattle.pages.specs.Cards.{chipOf, unknown, hasTable, tellsNamed, tellsFan}
-use Rattle.pages.specs.Contracts.{Names, Finds, PowersOn, TellsSizes, Requires, Lays, LaysOut, Stands, Selects, Positions, GoesWith, StandsInOneRow, StandsAt}
+use Rattle.pages.specs.Contracts.{Names, Finds, Acts, PowersOn, TellsSizes, Requires, Lays, LaysOut, Stands, Selects, Positions, GoesWith, StandsInOneRow, StandsAt}
 use Rattle.pages.specs.Identity.{confirmed}
 use Rattle.images.specs.declared.Admitted.{Admitted}
 use Rattle.images.specs.declared.ByteRead.{ByteRead}
@@ -92,6 +92,7 @@ pub record Demand1 : Type 0 where
   pub number : (refusal : Refusal) → Given (λ n. Numbers refusal n)
   pub chip-of : (number : ℕ) (r : Named) → Names number r → Answered ((unknown number, 3) ∷ []) 0 (tellsNamed r)
   pub masks-of : (chip : Chip) (position : ℕ) → Given (λ masks. Finds chip position masks)
+  pub effects-of : (chip : Chip) (position : ℕ) → Given (λ effects. Acts chip position effects)
   pub power-on-of : (chip : Chip) (position : ℕ) → Given (λ byte. PowersOn chip position byte)
   pub sizes-of : (chip : Chip) → Given (λ sizes. TellsSizes chip sizes)
   pub required-of : (chip : Chip) (k : ℕ) → Given (λ required. Requires chip k required)

@@ -4,7 +4,7 @@
 use crate::image_calls;
 use images::ByteRead;
 
-fn read(chip: u8, image: &[u8], address: u8) {
+pub fn read(chip: u8, image: &[u8], address: u8) {
     figures_printing::labelled(b"bus chip ", chip as u64);
     figures_printing::text(b" read ");
     figures_printing::byte(address);
@@ -31,7 +31,7 @@ pub fn select(chip: u8, image: &mut [u8], byte: u8) {
 }
 
 // Of two images that hold the same, the new one is written first: what then differs is shown.
-fn write(chip: u8, old: &mut [u8], new: &mut [u8], address: u8, byte: u8) {
+pub fn write(chip: u8, old: &mut [u8], new: &mut [u8], address: u8, byte: u8) {
     images::write(chip, new, address, byte);
     figures_printing::labelled(b"bus chip ", chip as u64);
     figures_printing::text(b" write ");

@@ -2,6 +2,7 @@
 mod banks;
 mod identity_bits;
 mod image_calls;
+mod initialization;
 mod rows;
 
 fn main() {
@@ -9,5 +10,6 @@ fn main() {
     image_calls::print_all();
     image_calls::print_stored();
     banks::print_all();
+    initialization::print_all();
     identity_bits::print_all();
 }

@@ -1,4 +1,5 @@
--- Identity is kept: a reset image is confirmed, and no write changes what identity sees, since no card lets an identity bit be written or cleared.
+-- What no write changes: bits that are neither writable nor clear on one, wherever they stand. So identity is kept: a reset image is confirmed, and no
+-- write changes what identity sees, since no card lets an identity bit be written or cleared.
 -- Assumes nothing.
 use Prim.Native.Nat.{ℕ, zero, suc, _+_, _*_, _/_, _%_, _^_, _<_, min}
 use native.Mathlib.Nat.{pow-suc, min-zero}
@@ -8,22 +9,23 @@ use mathlib.Core.Bool.{Bool, true, false, So, _&&_, _||_}
 use mathlib.Core.List.{List, [], _∷_}
 use borrow.Author.Tests.{eqb-true, eqb-false, lt-ltb, ltb-true, ltb-false}
 use lib.Arith.{lt-one}
-use lib.Bits.{bitAnd, and-step, and-zero-r}
+use lib.Bits.{bitAnd, and-step, and-zero-l, and-zero-r}
 use lib.Dec.{eqb, ltb}
-use lib.ListN.{length, getD, set}
+use lib.ListN.{length, getD, set, List·getD-eq-default}
 use lib.Seq.{getD-set-same, set-out}
 use Rattle.pages.specs.declared.Chip.{Chip}
 use Rattle.pages.specs.declared.Chip.the-variants.{Nct7802y, F75373s, Nct7904d, W83793g}
+use Rattle.pages.specs.declared.Masks.{Masks}
 use Rattle.pages.specs.declared.Required.{Required}
-use Rattle.pages.specs.Rows.{every, Row, masksIn, rowIn}
-use Rattle.pages.specs.Sheets.{Sheet}
-use Rattle.pages.specs.Cards.{sheetOf, rowOf, powerOn}
+use Rattle.pages.specs.Rows.{every, Row, masksIn, maskOf}
+use Rattle.pages.specs.Cards.{sheetOf, rowOf, effectsOf, powerOn}
 use Rattle.pages.specs.Identity.{allHold, agrees, confirmed}
 use Rattle.pages.proofs.Every.{both}
 use Rattle.pages.proofs.Sound.{fixed, lasting, sound-sheet}
-use Rattle.images.specs.Bytes.{storedBit, storedBits, stored, storedAt, placed, position, written}
+use Rattle.images.specs.Bytes.{storedBit, storedBits, stored, storedAt, placed, initialized, settled, landed, position, written}
 use Rattle.images.proofs.Digits.{bit, digit}
 use Rattle.images.proofs.Laws.{storedAt-other, stored-half, stored-last}
+use Rattle.images.proofs.Writes.{initialized-length, initialized-at, landed-either}
 
 agrees-where-some : (image : List ℕ) (rs : List Required) → So (allHold image rs) → agrees image rs ≡ ltb 0 (length rs)
 agrees-where-some image [] t = refl
@@ -70,69 +72,90 @@ kept-bits (suc n) w c m o x h p q =
     (ap (λ (y : ℕ). min y (m % 2)) (stored-last n w c o x) ∙ kept-digit w c m (o % 2) (x % 2) (omega arith) (omega arith))
     ∙ sym (and-step o m)
 
-kept-byte : (row : Row) (bits old byte : ℕ) → So (fixed row bits) → bitAnd (stored (masksIn row) old byte) bits ≡ bitAnd old bits
+kept-stored : (masks : Masks) (bits old byte : ℕ) → bits < 2 ^ 8 → bitAnd (masks .writable) bits ≡ 0 → bitAnd (masks .clears) bits ≡ 0
+    → bitAnd (stored masks old byte) bits ≡ bitAnd old bits
 unfolding stored
-kept-byte row bits old byte t =
+kept-stored masks bits old byte h p q = kept-bits 8 (masks .writable) (masks .clears) bits old byte h p q
+
+-- what the test says of bits that no write changes
+abbrev Fixed : Row → ℕ → Type 0
+Fixed row bits = (bits < 2 ^ 8) × (bitAnd (row .writable) bits ≡ 0) × (bitAnd (row .clears) bits ≡ 0)
+
+fixed-facts : (row : Row) (bits : ℕ) → So (fixed row bits) → Fixed row bits
+fixed-facts row bits t =
     let parts = both (ltb bits (2 ^ 8)) _ t in
     let masks = both (eqb (bitAnd (row .writable) bits) 0) _ (parts .1) in
-    kept-bits 8 (row .writable) (row .clears) bits old byte (ltb-true bits (2 ^ 8) (parts .0))
-    (eqb-true (bitAnd (row .writable) bits) 0 (masks .0)) (eqb-true (bitAnd (row .clears) bits) 0 (masks .1))
+    (ltb-true bits (2 ^ 8) (parts .0), eqb-true (bitAnd (row .writable) bits) 0 (masks .0), eqb-true (bitAnd (row .clears) bits) 0 (masks .1))
 
--- a write at a position keeps what identity sees at that position ..
-seen-there : (row : Row) (position byte : ℕ) (image : List ℕ) (bits : ℕ) → So (fixed row bits)
-    → bitAnd (getD (storedAt (masksIn row) position byte image) position 0) bits ≡ bitAnd (getD image position 0) bits
-unfolding storedAt
-seen-there row position byte image bits t = by-place (ltb position (length image)) refl
-  where
-    new : ℕ
-    new = stored (masksIn row) (getD image position 0) byte
+-- "read-only bits .. stay": an image holds what another does, in all bits that no write changes
+abbrev pub Keeps : Chip → List ℕ → List ℕ → Type 0
+Keeps chip old new = (k bits : ℕ) → So (fixed (rowOf chip k) bits) → bitAnd (getD new k 0) bits ≡ bitAnd (getD old k 0) bits
 
-    by-place : (inside : Bool) → ltb position (length image) ≡ inside
-        → bitAnd (getD (set image position new) position 0) bits ≡ bitAnd (getD image position 0) bits
-    by-place true e =
-        ap (λ (y : ℕ). bitAnd y bits) (getD-set-same image position new 0 (ltb-true position (length image) e))
-        ∙ kept-byte row bits (getD image position 0) byte t
-    by-place false e = ap (λ (l : List ℕ). bitAnd (getD l position 0) bits) (set-out image position new (ltb-false position (length image) e))
+module _ (chip : Chip) (image : List ℕ) where
+  -- a write at a position keeps them at that position, and everything at every other
+  pub placed-keeps : (position byte : ℕ) → Keeps chip image (placed chip position byte image)
+  unfolding storedAt
+  placed-keeps position byte k bits t = by-place (eqb k position) refl
+    where
+      new : ℕ
+      new = stored (masksIn (rowOf chip position)) (getD image position 0) byte
 
--- .. and at every other
-seen : (row : Row) (position byte : ℕ) (image : List ℕ) (address bits : ℕ) → (address ≡ position → So (fixed row bits))
-    → bitAnd (getD (storedAt (masksIn row) position byte image) address 0) bits ≡ bitAnd (getD image address 0) bits
-seen row position byte image address bits t = by-place (eqb address position) refl
-  where
-    by-place : (there : Bool) → eqb address position ≡ there
-        → bitAnd (getD (storedAt (masksIn row) position byte image) address 0) bits ≡ bitAnd (getD image address 0) bits
-    by-place true e =
-        let same = eqb-true address position e in
-        rw same (seen-there row position byte image bits (t same))
-    by-place false e =
-        ap (λ (y : ℕ). bitAnd y bits) (storedAt-other (masksIn row) position byte image address (eqb-false address position e))
+      there : Fixed (rowOf chip position) bits → (inside : Bool) → ltb position (length image) ≡ inside
+          → bitAnd (getD (set image position new) position 0) bits ≡ bitAnd (getD image position 0) bits
+      there (h, w, c) true e =
+          ap (λ (y : ℕ). bitAnd y bits) (getD-set-same image position new 0 (ltb-true position (length image) e))
+          ∙ kept-stored (masksIn (rowOf chip position)) bits (getD image position 0) byte h w c
+      there f false e = ap (λ (l : List ℕ). bitAnd (getD l position 0) bits) (set-out image position new (ltb-false position (length image) e))
 
--- the test over a page's identity, carried to every write
-kept : (sheet : Sheet) (position byte : ℕ) (image : List ℕ) (rs : List Required) → So (every (lasting sheet) rs)
-    → allHold (storedAt (masksIn (rowIn (sheet .card) position)) position byte image) rs ≡ allHold image rs
-kept sheet position byte image [] t = refl
-kept sheet position byte image (r ∷ rs) t =
-    let parts = both (lasting sheet r) _ t in
-    let unchanging = both (ltb (r .position) (sheet .size)) _ (parts .0) .1 in
-    ap₂ _&&_
-    (ap (λ (y : ℕ). eqb y (r .value) || eqb y (r .other))
-    (seen (rowIn (sheet .card) position) position byte image (r .position) (r .bits)
-    (λ e. subst (λ (a : ℕ). So (fixed (rowIn (sheet .card) a) (r .bits))) e unchanging)))
-    (kept sheet position byte image rs (parts .1))
+      by-place : (here : Bool) → eqb k position ≡ here → bitAnd (getD (set image position new) k 0) bits ≡ bitAnd (getD image k 0) bits
+      by-place true e =
+          let same = eqb-true k position e in
+          rw same (there (subst (λ (a : ℕ). Fixed (rowOf chip a) bits) same (fixed-facts (rowOf chip k) bits t)) (ltb position (length image)) refl)
+      by-place false e =
+          ap (λ (y : ℕ). bitAnd y bits) (storedAt-other (masksIn (rowOf chip position)) position byte image k (eqb-false k position e))
 
-agrees-kept : (sheet : Sheet) (position byte : ℕ) (image : List ℕ) (rs : List Required) → So (every (lasting sheet) rs)
-    → agrees (storedAt (masksIn (rowIn (sheet .card) position)) position byte image) rs ≡ agrees image rs
-agrees-kept sheet position byte image [] t = refl
-agrees-kept sheet position byte image (r ∷ rs) t = kept sheet position byte image (r ∷ rs) t
+  -- an initialization keeps them everywhere
+  pub initialized-keeps : Keeps chip image (initialized chip image)
+  initialized-keeps k bits t = by-place (ltb k (length image)) refl (fixed-facts (rowOf chip k) bits t)
+    where
+      by-place : (inside : Bool) → ltb k (length image) ≡ inside → Fixed (rowOf chip k) bits
+          → bitAnd (getD (initialized chip image) k 0) bits ≡ bitAnd (getD image k 0) bits
+      by-place true e (h, w, c) =
+          ap (λ (y : ℕ). bitAnd y bits) (initialized-at chip image k (ltb-true k (length image) e))
+          ∙ kept-stored (maskOf (rowOf chip k .writable)) bits (getD image k 0) (rowOf chip k .power) h w (and-zero-l bits)
+      by-place false e f =
+          let beyond = ltb-false k (length image) e in
+          ap (λ (y : ℕ). bitAnd y bits)
+          (List·getD-eq-default (initialized chip image) 0 (omega (arith, initialized-length chip image, beyond)) ∙ sym (List·getD-eq-default image 0 beyond))
 
--- no write changes what identity sees, at any position ..
-pub placed-keeps-identity : (chip : Chip) (position byte : ℕ) (image : List ℕ)
-    → confirmed chip (placed chip position byte image) ≡ confirmed chip image
-unfolding confirmed rowOf
-placed-keeps-identity chip position byte image =
-    agrees-kept (sheetOf chip) position byte image (sheetOf chip .identity) (sound-sheet chip .identity)
+-- and so does every write on the bus, where it lands and everywhere else
+pub landed-keeps : (chip : Chip) (position byte : ℕ) (image : List ℕ) → Keeps chip image (landed chip position byte image)
+landed-keeps chip position byte image k bits t =
+    landed-either chip position byte image (λ l. bitAnd (getD l k 0) bits ≡ bitAnd (getD image k 0) bits)
+    (placed-keeps chip image position (settled (effectsOf chip position) byte) k bits t)
+    (λ e. initialized-keeps chip (placed chip position (settled (effectsOf chip position) byte) image) k bits t ∙ e)
 
--- .. and so wherever it lands
+-- the test over a page's identity, carried to images that hold the same in these bits
+module _ (chip : Chip) (old new : List ℕ) (same : Keeps chip old new) where
+  kept : (rs : List Required) → So (every (lasting (sheetOf chip)) rs) → allHold new rs ≡ allHold old rs
+  unfolding rowOf
+  kept [] t = refl
+  kept (r ∷ rs) t =
+      let parts = both (lasting (sheetOf chip) r) _ t in
+      let unchanging = both (ltb (r .position) (sheetOf chip .size)) _ (parts .0) .1 in
+      ap₂ _&&_ (ap (λ (y : ℕ). eqb y (r .value) || eqb y (r .other)) (same (r .position) (r .bits) unchanging)) (kept rs (parts .1))
+
+  agrees-kept : (rs : List Required) → So (every (lasting (sheetOf chip)) rs) → agrees new rs ≡ agrees old rs
+  agrees-kept [] t = refl
+  agrees-kept (r ∷ rs) t = kept (r ∷ rs) t
+
+  -- they are confirmed alike
+  confirmed-kept : confirmed chip new ≡ confirmed chip old
+  unfolding confirmed
+  confirmed-kept = agrees-kept (sheetOf chip .identity) (sound-sheet chip .identity)
+
+-- no write changes what identity sees
 pub write-keeps-identity : (chip : Chip) (address byte : ℕ) (image : List ℕ)
     → confirmed chip (written chip address byte image) ≡ confirmed chip image
-write-keeps-identity chip address byte image = placed-keeps-identity chip (position chip image address) byte image
+write-keeps-identity chip address byte image =
+    confirmed-kept chip image (written chip address byte image) (landed-keeps chip (position chip image address) byte image)

@@ -3,8 +3,9 @@
 use Prim.Native.Nat.{ℕ, _+_, _*_, _≤_}
 use native.Mathlib.Omega.{arith}
 use mathlib.Core.Path.{_≡_, refl, sym, ap, _∙_}
-use mathlib.Core.Bool.{Bool, true, false, cond}
+use mathlib.Core.Bool.{Bool, true, false, cond, true≢false}
 use mathlib.Core.List.{List}
+use mathlib.Core.Logic.{inl, inr}
 use borrow.Author.Tests.{eq-eqb, eqb-true}
 use lib.Bits.{bitAnd, and-zero-r}
 use lib.Dec.{eqb}
@@ -15,9 +16,12 @@ use Rattle.pages.specs.declared.Register.{Register}
 use Rattle.pages.specs.declared.Selector.{Selector}
 use Rattle.pages.specs.Banks.{Banks, among, sharedIn, standsIn}
 use Rattle.pages.specs.Sheets.{selectorIn}
-use Rattle.pages.specs.Cards.{sheetOf, banksOf}
+use Rattle.pages.specs.Rows.{noEffects}
+use Rattle.pages.specs.Cards.{sheetOf, banksOf, effectsOf}
+use Rattle.pages.proofs.Acting.{Known, effects-known}
 use Rattle.pages.proofs.Selectors.{selector-bits, selector-register}
 use Rattle.images.specs.Bytes.{storedAt, selected, position, written, seen}
+use Rattle.images.proofs.Writes.{landed-alone}
 
 -- an access lands where its address stands in the bank that is selected
 pub lands : (chip : Chip) (image : List ℕ) (address : ℕ) → position chip image address ≡ standsIn (banksOf chip) (selected chip image) address
@@ -53,8 +57,19 @@ unfolding storedAt
 missing-bank chip image address byte e h =
     let at : position chip image address ≡ selected chip image * 256 + address =
     lands chip image address ∙ stands-banked (banksOf chip) (selected chip image) address e in
-    let beyond : length image ≤ position chip image address = omega (arith, at) in
-    (set-out image (position chip image address) _ beyond, List·getD-eq-default image 0 beyond)
+    let beyond : length image ≤ position chip image address = omega (arith, at) in (
+      landed-alone chip (position chip image address) byte image (only-stores at (effects-known chip (position chip image address)))
+          ∙ set-out image (position chip image address) _ beyond,
+      List·getD-eq-default image 0 beyond,
+    )
+  where
+    -- a register with effects is seen in every bank
+    only-stores : position chip image address ≡ selected chip image * 256 + address → Known chip (position chip image address)
+        → effectsOf chip (position chip image address) ≡ noEffects
+    only-stores at (inl none) = none
+    only-stores at (inr (i, f)) =
+        let same : position chip image address ≡ address = omega (arith, at, i .0 .address) in
+        absurd (true≢false (sym (i .0 .shared) ∙ ap (sharedIn (banksOf chip)) same ∙ e))
 
 -- what a chip's selector reads off an image is the bank selected: where there is one bank only, no bit is read
 pub selected-by : (chip : Chip) (image : List ℕ) (selector : Selector) → selector ≡ selectorIn (sheetOf chip)

@@ -1,4 +1,4 @@
--- What a byte write does to an image, for whoever plays several: its length and every other byte stay, a register takes a value that fits its
+-- What a write at a position does to an image, for whoever plays several: its length and every other byte stay, a register takes a value that fits its
 -- writable bits, and one without masks changes nothing. The last two go bit by bit, by induction over the number of bits.
 -- Assumes nothing.
 use Prim.Native.Nat.{ℕ, zero, suc, _+_, _*_, _/_, _%_, _^_, _<_, min}
@@ -7,21 +7,14 @@ use native.Mathlib.Omega.{arith}
 use mathlib.Core.Path.{_≡_, refl, sym, ap, ap₂, _∙_}
 use mathlib.Core.Bool.{Bool, true, false, cond, _&&_}
 use mathlib.Core.List.{List}
-use borrow.Author.Tests.{eq-eqb, ltb-true, ltb-false}
+use borrow.Author.Tests.{ltb-true, ltb-false}
 use lib.Arith.{lt-one}
 use lib.Bits.{bitAnd, and-step, and-self}
 use lib.Dec.{eqb, ltb}
 use lib.ListN.{length, getD, set, length-set}
 use lib.Seq.{getD-set-same, getD-set-other, set-getD, set-out}
-use Rattle.refusal.specs.declared.Outcome.{Outcome}
-use Rattle.refusal.specs.Answers.{tells}
-use Rattle.pages.specs.declared.Chip.{Chip}
-use Rattle.pages.specs.declared.Named.the-variants.{Known}
 use Rattle.pages.specs.declared.Masks.{Masks}
-use Rattle.pages.specs.Rows.{masksIn}
-use Rattle.pages.specs.Cards.{chipOf, rowOf, sizeOf}
-use Rattle.images.specs.Bytes.{storedBit, storedBits, stored, storedAt, position, seen}
-use Rattle.images.specs.Contracts.{WritesByte}
+use Rattle.images.specs.Bytes.{storedBit, storedBits, stored, storedAt}
 use Rattle.images.proofs.Digits.{bit, digit}
 
 -- the image keeps its length
@@ -29,7 +22,7 @@ pub storedAt-length : (masks : Masks) (position byte : ℕ) (image : List ℕ) �
 unfolding storedAt
 storedAt-length masks position byte image = length-set image position (stored masks (getD image position 0) byte)
 
--- "Every other address keeps its byte."
+-- and every other position its byte
 pub storedAt-other : (masks : Masks) (position byte : ℕ) (image : List ℕ) (k : ℕ) → (k ≡ position → ⊥)
     → getD (storedAt masks position byte image) k 0 ≡ getD image k 0
 unfolding storedAt
@@ -79,13 +72,19 @@ taken-bits (suc n) w c m o x h p =
     (ap (λ (y : ℕ). min y (m % 2)) (stored-last n w c o x) ∙ taken-digit w m (c % 2) (o % 2) (x % 2) (omega arith))
     ∙ sym (and-step x m)
 
--- of a byte that is written, bits that are all writable are there afterwards
+-- of a byte that is written, bits that are all writable are stored ..
+pub stored-under : (masks : Masks) (old byte bits : ℕ) → bitAnd (masks .writable) bits ≡ bits → byte < 2 ^ 8
+    → bitAnd (stored masks old byte) bits ≡ bitAnd byte bits
+unfolding stored
+stored-under masks old byte bits p h = taken-bits 8 (masks .writable) (masks .clears) bits old byte h p
+
+-- .. and are there afterwards
 pub storedAt-under : (masks : Masks) (position byte : ℕ) (image : List ℕ) (bits : ℕ) → bitAnd (masks .writable) bits ≡ bits → byte < 2 ^ 8
     → position < length image → bitAnd (getD (storedAt masks position byte image) position 0) bits ≡ bitAnd byte bits
-unfolding storedAt stored
+unfolding storedAt
 storedAt-under masks position byte image bits p h inside =
     ap (λ (y : ℕ). bitAnd y bits) (getD-set-same image position (stored masks (getD image position 0) byte) 0 inside)
-    ∙ taken-bits 8 (masks .writable) (masks .clears) bits (getD image position 0) byte h p
+    ∙ stored-under masks (getD image position 0) byte bits p h
 
 -- so a value that fits the writable bits is seen there, whatever they are
 pub storedAt-takes : (masks : Masks) (position value : ℕ) (image : List ℕ) → bitAnd value (masks .writable) ≡ value → value < 2 ^ 8
@@ -130,13 +129,3 @@ pub storedAt-closed : (masks : Masks) (position byte : ℕ) (image : List ℕ) �
 unfolding storedAt
 storedAt-closed masks position byte image e f h =
     ap (set image position) (stored-closed masks (getD image position 0) byte e f h) ∙ set-getD image position 0
-
--- "A write to a row without masks is accepted and changes nothing."
-pub write-closed : (number : ℕ) (chip : Chip) (address byte : ℕ) (old : List ℕ) {r : Outcome} {new : List ℕ}
-    → chipOf number ≡ Known chip → length old ≡ sizeOf chip
-    → rowOf chip (position chip old address) .writable ≡ 0 → rowOf chip (position chip old address) .clears ≡ 0 → seen chip address old < 2 ^ 8
-    → WritesByte number old address byte r new → (tells r ≡ 0) × (new ≡ old)
-write-closed number chip address byte old named long e f h p =
-    let size = eq-eqb (length old) (sizeOf chip) long in
-    let at = position chip old address in
-    (p .answer ∙ simp (named, size), p .bytes ∙ simp (named, size) (storedAt-closed (masksIn (rowOf chip at)) at byte old e f h))

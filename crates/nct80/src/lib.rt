@@ -1,9 +1,11 @@
 // The register card of the NCT80, told by rules over its addresses.
+use pages::Effects;
 use pages::Masks;
+use pages::NO_EFFECTS;
 ghost use mathlib.Core.Path.{_≡_};
 ghost use Rattle.pages.specs.declared.Chip.the-variants.{Nct80};
 ghost use Rattle.pages.specs.Cards.{rowOf};
-ghost use Rattle.pages.specs.Contracts.{Finds, PowersOn};
+ghost use Rattle.pages.specs.Contracts.{Finds, Acts, PowersOn};
 
 // What the card says of a register: its writable bits, and what it holds at power-on. No bit of this chip clears on one.
 struct Row(u8, u8);
@@ -60,6 +62,19 @@ pub fn masks(position: usize) -> Masks
     Masks {
         writable: row_at(position).0,
         clears: 0x00,
+    }
+}
+
+// What bits do beside being stored: of 00h INITIALIZATION and Chassis_clear.
+pub fn effects(position: usize) -> Effects
+    ensures { λ r. ⌜ Acts Nct80 position r ⌝ }
+{
+    match position {
+        0x00 => Effects {
+            initialize: 0x80,
+            fleeting: 0x20,
+        },
+        _ => NO_EFFECTS,
     }
 }
 

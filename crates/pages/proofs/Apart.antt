@@ -1,4 +1,5 @@
--- "In each row the two masks share no bit", and both are bytes: of any page that passes its test, carried from its lines to the row of every address.
+-- "In each row the two masks share no bit", and both are bytes, as is the power-on value: of any page that passes its test, carried from its lines to the
+-- row of every address.
 -- Assumes nothing.
 use Prim.Native.Nat.{ℕ, _^_, _<_}
 use native.Mathlib.Nat.{lt-of-le-of-lt}
@@ -18,8 +19,8 @@ use Rattle.pages.proofs.Sound.{disjoint, narrow, Sound, sound-sheet}
 abbrev Apart : Row → Type 0
 Apart r = bitAnd (r .writable) (r .clears) ≡ 0
 
-abbrev Narrow : Row → Type 0
-Narrow r = (r .writable < 2 ^ 8) × (r .clears < 2 ^ 8)
+abbrev pub Narrow : Row → Type 0
+Narrow r = (r .writable < 2 ^ 8) × (r .clears < 2 ^ 8) × (r .power < 2 ^ 8)
 
 module _ (sheet : Sheet) (S : Sound sheet) (address : ℕ) where
   sheet-apart : Apart (rowIn (sheet .card) address)
@@ -28,8 +29,11 @@ module _ (sheet : Sheet) (S : Sound sheet) (address : ℕ) where
 
   sheet-narrow : Narrow (rowIn (sheet .card) address)
   sheet-narrow =
-      carried (λ a r. Narrow r) narrow (λ a. (omega arith, omega arith))
-      (λ l t. let parts = both (ltb (l .1) (2 ^ 8)) _ t in (ltb-true (l .1) (2 ^ 8) (parts .0), ltb-true (l .2) (2 ^ 8) (parts .1)))
+      carried (λ a r. Narrow r) narrow (λ a. (omega arith, omega arith, omega arith))
+      (λ l t.
+      let one = both (ltb (l .1) (2 ^ 8)) _ t in
+      let two = both (ltb (l .2) (2 ^ 8)) _ (one .1) in
+      (ltb-true (l .1) (2 ^ 8) (one .0), ltb-true (l .2) (2 ^ 8) (two .0), ltb-true (l .3) (2 ^ 8) (two .1)))
       (sheet .card) (S .bytes) address
 
 module _ (chip : Chip) (address : ℕ) where
@@ -37,11 +41,11 @@ module _ (chip : Chip) (address : ℕ) where
   unfolding rowOf
   masks-apart = sheet-apart (sheetOf chip) (sound-sheet chip) address
 
-  pub masks-narrow : (rowOf chip address .writable < 2 ^ 8) × (rowOf chip address .clears < 2 ^ 8)
+  pub row-narrow : Narrow (rowOf chip address)
   unfolding rowOf
-  masks-narrow = sheet-narrow (sheetOf chip) (sound-sheet chip) address
+  row-narrow = sheet-narrow (sheetOf chip) (sound-sheet chip) address
 
   -- so a value that fits is a byte
   pub fitting-byte : (value : ℕ) → bitAnd value (rowOf chip address .writable) ≡ value → value < 2 ^ 8
   fitting-byte value fits =
-      subst (λ (v : ℕ). v < 2 ^ 8) fits (lt-of-le-of-lt (and-le-r value (rowOf chip address .writable)) (masks-narrow .0))
+      subst (λ (v : ℕ). v < 2 ^ 8) fits (lt-of-le-of-lt (and-le-r value (rowOf chip address .writable)) (row-narrow .0))

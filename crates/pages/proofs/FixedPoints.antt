@@ -1,14 +1,16 @@
--- "Fixed points for review", as one list under one claim: each card has the rows that the rules paper names, and each image its bytes.
+-- "Fixed points for review", as one list under one claim: each card has the rows that the rules paper names, each image its bytes, and each page the
+-- bits with effects that the requests name.
 -- Assumes nothing.
-use Prim.Native.Nat.{ℕ, _*_}
+use Prim.Native.Nat.{ℕ, _*_, _^_}
 use mathlib.Core.Path.{refl}
 use mathlib.Core.Bool.{Bool, So, true, _&&_}
 use mathlib.Core.List.{List, [], _∷_, _++_}
 use lib.Dec.{eqb}
+use lib.ListN.{length}
 use Rattle.pages.specs.declared.Chip.{Chip}
 use Rattle.pages.specs.declared.Chip.the-variants.{Nct7802y, F75373s, Nct80, Nct7904d, W83793g}
 use Rattle.pages.specs.Rows.{Table}
-use Rattle.pages.specs.Cards.{sheetOf, sizeOf, rowOf, tablesOf}
+use Rattle.pages.specs.Cards.{sheetOf, sizeOf, rowOf, effectsOf, tablesOf}
 use Rattle.pages.specs.Nct7802y as nct7802y
 use Rattle.pages.specs.F75373s as f75373s
 use Rattle.pages.specs.Nct80 as nct80
@@ -35,6 +37,10 @@ clears chip address = rowOf chip address .clears
 
 abbrev power : Chip → ℕ → ℕ
 power chip address = rowOf chip address .power
+
+-- how many registers have effects
+abbrev acting : Chip → ℕ
+acting chip = length (sheetOf chip .effects)
 
 -- some registers have a mask
 abbrev masks : Chip → ℕ → List ℕ → List Point
@@ -70,6 +76,9 @@ points =
     -- "Chip 3, 00h mask FFh, power-on 08h; 01h read only; 09h mask 07h"
     ∷ (writable Nct80 0x00, 0xFF) ∷ (power Nct80 0x00, 0x08) ∷ (writable Nct80 0x01, 0x00) ∷ (clears Nct80 0x01, 0x00)
     ∷ (writable Nct80 0x09, 0x07)
+    -- "bit 7 of NCT80 register 00h", "Bit 5 of the same register"; no other register, and no other chip
+    ∷ (effectsOf Nct80 0x00 .initialize, 2 ^ 7) ∷ (effectsOf Nct80 0x00 .fleeting, 2 ^ 5) ∷ (acting Nct80, 1)
+    ∷ (acting Nct7802y, 0) ∷ (acting F75373s, 0) ∷ (acting Nct7904d, 0) ∷ (acting W83793g, 0)
     -- "All fan table registers have mask FFh"; of chip 5 temperatures have bits "6-0" and duties bits "5-0", by source document 001
     ∷ tableMasks Nct7802y 0xFF 0xFF (tablesOf Nct7802y)
     ++ (tableMasks F75373s 0xFF 0xFF (tablesOf F75373s)
@@ -80,5 +89,5 @@ agree [] = true
 agree (p ∷ ps) = eqb (p .0) (p .1) && agree ps
 
 pub fixed-points : So (agree points)
-unfolding agree points sheetOf rowOf nct7802y.card f75373s.card nct80.card nct7904d.card bank0.bank bank1.bank bank2.bank bank3.bank bank4.bank w83793g.card page0.bank page1.bank page2.bank
+unfolding agree points sheetOf rowOf effectsOf nct7802y.card f75373s.card nct80.card nct7904d.card bank0.bank bank1.bank bank2.bank bank3.bank bank4.bank w83793g.card page0.bank page1.bank page2.bank
 fixed-points = refl

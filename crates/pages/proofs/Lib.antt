@@ -13,4 +13,5 @@ pub mod Registers
 pub mod Tables
 pub mod Numbers
 pub mod Selectors
+pub mod Acting
 pub mod Unique

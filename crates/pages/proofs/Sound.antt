@@ -4,13 +4,14 @@ use Prim.Native.Nat.{ℕ, suc, _+_, _-_, _*_, _/_, _%_, _^_, _≤_, _<_}
 use native.Mathlib.Omega.{arith}
 use mathlib.Core.Path.{refl}
 use mathlib.Core.Bool.{Bool, true, false, So, cond, not, _&&_}
-use mathlib.Core.List.{List, [], _∷_, _++_}
+use mathlib.Core.List.{List, [], _∷_, _++_, map}
 use borrow.Author.Tests.{leb-true, ltb-true}
 use lib.Bits.{bitAnd}
 use lib.Dec.{eqb, leb, ltb}
 use lib.ListN.{length, getD, take, drop}
 use Rattle.pages.specs.declared.Chip.{Chip}
 use Rattle.pages.specs.declared.Chip.the-variants.{Nct7802y, F75373s, Nct80, Nct7904d, W83793g}
+use Rattle.pages.specs.declared.Effects.{Effects}
 use Rattle.pages.specs.declared.Layout.{Layout}
 use Rattle.pages.specs.declared.Masks.{Masks}
 use Rattle.pages.specs.declared.Required.{Required}
@@ -45,9 +46,9 @@ rising size least (l ∷ ls) = leb least (l .0) && (ltb (l .0) size && rising si
 abbrev pub disjoint : Line → Bool
 disjoint l = eqb (bitAnd (l .1) (l .2)) 0
 
--- and each is a byte
+-- and each is a byte, as is the power-on value
 abbrev pub narrow : Line → Bool
-narrow l = ltb (l .1) (2 ^ 8) && ltb (l .2) (2 ^ 8)
+narrow l = ltb (l .1) (2 ^ 8) && (ltb (l .2) (2 ^ 8) && ltb (l .3) (2 ^ 8))
 
 -- none of these bits of a register may change, and they are bits of a byte
 abbrev pub fixed : Row → ℕ → Bool
@@ -69,17 +70,34 @@ reached banks position = seenAt banks position && eqb (bitAnd (position / 256) (
 abbrev pub noneOf : List ℕ → ℕ → Bool
 noneOf others position = every (λ q. not (eqb q position)) others
 
--- a fan table's register is inside the image, where the bus reaches it, and selects no bank
-abbrev pub stands : Sheet → ℕ → Bool
-stands sheet position = ltb position (sheet .size) && (reached (sheet .banks) position && noneOf (asideIn (sheet .banks)) position)
+-- a register that only stores
+abbrev pub quiet : Sheet → ℕ → Bool
+quiet sheet position = noneOf (map (λ l. l .0) (sheet .effects)) position
 
--- the bank select register is inside the image, at an address that is seen in every bank, and takes every bit that says the bank
-abbrev pub selecting : Sheet → ℕ → Bool
-selecting sheet position =
+-- a fan table's register is inside the image, where the bus reaches it, selects no bank, and only stores
+abbrev pub stands : Sheet → ℕ → Bool
+stands sheet position =
+    ltb position (sheet .size)
+    && (reached (sheet .banks) position && (noneOf (asideIn (sheet .banks)) position && quiet sheet position))
+
+-- a register is inside the image, at an address that is seen in every bank, and takes every one of some bits
+abbrev pub taking : Sheet → ℕ → ℕ → Bool
+taking sheet bits position =
     ltb position (sheet .size)
     && (ltb position (2 ^ 8)
-    && (sharedIn (sheet .banks) position
-    && eqb (bitAnd (rowIn (sheet .card) position .writable) (sheet .banks .bits)) (sheet .banks .bits)))
+    && (sharedIn (sheet .banks) position && eqb (bitAnd (rowIn (sheet .card) position .writable) bits) bits))
+
+-- the bank select register takes those that say the bank, and only stores
+abbrev pub selecting : Sheet → ℕ → Bool
+selecting sheet position = taking sheet (sheet .banks .bits) position && quiet sheet position
+
+-- a register takes every one of some bits, and they are 0 at power-on
+abbrev pub resting : Sheet → ℕ → ℕ → Bool
+resting sheet bits position = taking sheet bits position && eqb (bitAnd (rowIn (sheet .card) position .power) bits) 0
+
+-- so are all bits with effects
+abbrev pub effective : Sheet → ℕ × Effects → Bool
+effective sheet l = resting sheet (l .1 .initialize) (l .0) && resting sheet (l .1 .fleeting) (l .0)
 
 -- what a speed's register takes: of a slope the full duty, and nothing above it
 abbrev pub reaches : Shape → ℕ → Bool
@@ -187,6 +205,7 @@ tests sheet =
     ∷ every ordered (sheet .tables)
     ∷ every (inStretches (sheet .card)) (sheet .tables)
     ∷ every pointed (sheet .tables)
+    ∷ every (effective sheet) (sheet .effects)
     ∷ []
 
 unfoldable pub sound : Sheet → Bool
@@ -219,9 +238,10 @@ pub record Sound (sheet : Sheet) : Type 0 where
   pub stretches : So (every (inStretches (sheet .card)) (sheet .tables))
   -- a plan has room for the points of every table
   pub points : So (every pointed (sheet .tables))
+  pub effects : So (every (effective sheet) (sheet .effects))
 
 module _ (sheet : Sheet) (t : So (sound sheet)) where
-  part : (k : ℕ) → k < 18 → So (getD (tests sheet) k true)
+  part : (k : ℕ) → k < 19 → So (getD (tests sheet) k true)
   unfolding sound
   part k h = of-every (λ test. test) (tests sheet) true t k h
 
@@ -246,6 +266,7 @@ module _ (sheet : Sheet) (t : So (sound sheet)) where
         records = part 15 (omega arith);
         stretches = part 16 (omega arith);
         points = part 17 (omega arith);
+        effects = part 18 (omega arith);
       }
 
 -- the only law that goes by the chip

@@ -4,6 +4,7 @@ use Prim.Native.Nat.{ℕ}
 use mathlib.Core.Bool.{Bool}
 use mathlib.Core.Path.{_≡_, sym, _∙_}
 use Rattle.pages.specs.declared.Chip.{Chip}
+use Rattle.pages.specs.declared.Effects.{Effects}
 use Rattle.pages.specs.declared.Named.{Named}
 use Rattle.pages.specs.declared.Fan.{Fan}
 use Rattle.pages.specs.declared.Layout.{Layout}
@@ -13,13 +14,16 @@ use Rattle.pages.specs.declared.Register.{Register}
 use Rattle.pages.specs.declared.Required.{Required}
 use Rattle.pages.specs.declared.Selector.{Selector}
 use Rattle.pages.specs.declared.Sizes.{Sizes}
-use Rattle.pages.specs.Contracts.{GoesWith, Names, Finds, PowersOn, TellsSizes, Requires, Lays, LaysOut, Stands, Selects, Positions, StandsInOneRow, StandsAt}
+use Rattle.pages.specs.Contracts.{GoesWith, Names, Finds, Acts, PowersOn, TellsSizes, Requires, Lays, LaysOut, Stands, Selects, Positions, StandsInOneRow, StandsAt}
 
 pub names-unique : {number : ℕ} {r s : Named} → Names number r → Names number s → r ≡ s
 names-unique p q = p .answer ∙ sym (q .answer)
 
 pub finds-unique : {chip : Chip} {position : ℕ} {r s : Masks} → Finds chip position r → Finds chip position s → r ≡ s
 finds-unique p q = p .answer ∙ sym (q .answer)
+
+pub acts-unique : {chip : Chip} {position : ℕ} {r s : Effects} → Acts chip position r → Acts chip position s → r ≡ s
+acts-unique p q = p .answer ∙ sym (q .answer)
 
 pub powers-on-unique : {chip : Chip} {position r s : ℕ} → PowersOn chip position r → PowersOn chip position s → r ≡ s
 powers-on-unique p q = p .answer ∙ sym (q .answer)

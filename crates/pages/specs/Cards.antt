@@ -8,6 +8,7 @@ use lib.Dec.{eqb}
 use lib.ListN.{length, getD}
 use Rattle.pages.specs.declared.Chip.{Chip}
 use Rattle.pages.specs.declared.Chip.the-variants.{Nct7802y, F75373s, Nct80, Nct7904d, W83793g}
+use Rattle.pages.specs.declared.Effects.{Effects}
 use Rattle.pages.specs.declared.Named.{Named}
 use Rattle.pages.specs.declared.Named.the-variants.{Known, Unknown}
 use Rattle.pages.specs.declared.Shape.{Shape}
@@ -16,7 +17,7 @@ use Rattle.pages.specs.declared.Fan.the-variants.{Laid, Nothing}
 use Rattle.pages.specs.declared.Layout.{Layout}
 use Rattle.pages.specs.declared.Ground.{Ground}
 use Rattle.pages.specs.Banks.{Banks, oneBank}
-use Rattle.pages.specs.Rows.{Line, Row, Table, rowIn}
+use Rattle.pages.specs.Rows.{Line, Row, Table, rowIn, effectsIn}
 use Rattle.pages.specs.Sheets.{Sheet, powerOnIn, missing, hasTableIn, tableIn, layout, groundIn}
 use Rattle.pages.specs.Nct7802y as nct7802y
 use Rattle.pages.specs.F75373s as f75373s
@@ -68,6 +69,9 @@ banksOf chip = sheetOf chip .banks
 
 unfoldable pub rowOf : Chip → ℕ → Row
 rowOf chip position = rowIn (cardOf chip) position
+
+unfoldable pub effectsOf : Chip → ℕ → Effects
+effectsOf chip position = effectsIn (sheetOf chip .effects) position
 
 -- "a table value is its register's writable bits, all other bits counting as zero"
 abbrev pub worth : Chip → List ℕ → ℕ → ℕ

@@ -4,6 +4,7 @@ use Prim.Native.Nat.{ℕ}
 use mathlib.Core.Path.{_≡_}
 use mathlib.Core.Bool.{Bool}
 use Rattle.pages.specs.declared.Chip.{Chip}
+use Rattle.pages.specs.declared.Effects.{Effects}
 use Rattle.pages.specs.declared.Named.{Named}
 use Rattle.pages.specs.declared.Masks.{Masks}
 use Rattle.pages.specs.declared.Ground.{Ground}
@@ -16,7 +17,7 @@ use Rattle.pages.specs.declared.Layout.{Layout}
 use Rattle.pages.specs.Banks.{standsIn}
 use Rattle.pages.specs.Rows.{masksIn, requiredIn, inOneRow, standsAt}
 use Rattle.pages.specs.Sheets.{sizesIn, laidIn, goesWith, selectorIn}
-use Rattle.pages.specs.Cards.{sheetOf, chipOf, banksOf, rowOf, layoutOf, groundOf}
+use Rattle.pages.specs.Cards.{sheetOf, chipOf, banksOf, rowOf, effectsOf, layoutOf, groundOf}
 
 -- what `cards::chip_of` promises
 pub record Names (number : ℕ) (named : Named) : Type 0 where
@@ -25,6 +26,10 @@ pub record Names (number : ℕ) (named : Named) : Type 0 where
 -- what `cards::masks_of` and `masks` of a chip promise
 pub record Finds (chip : Chip) (position : ℕ) (masks : Masks) : Type 0 where
   pub answer : masks ≡ masksIn (rowOf chip position)
+
+-- what `cards::effects_of` and `effects` of a chip promise
+pub record Acts (chip : Chip) (position : ℕ) (effects : Effects) : Type 0 where
+  pub answer : effects ≡ effectsOf chip position
 
 -- what `cards::power_on_of` and `power` of a chip promise
 pub record PowersOn (chip : Chip) (position byte : ℕ) : Type 0 where

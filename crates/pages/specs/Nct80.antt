@@ -1,7 +1,9 @@
 -- onsemi NCT80, source document 004; of a register of two bytes the card has the high one.
 -- Each line: the address, the writable bits, the bits that clear on one, the power-on value. docs/CARDS.md has the choices.
 -- Assumes nothing.
+use Prim.Native.Nat.{ℕ}
 use mathlib.Core.List.{List, [], _∷_}
+use Rattle.pages.specs.declared.Effects.{Effects}
 use Rattle.pages.specs.Banks.{oneBank}
 use Rattle.pages.specs.Rows.{Line, Reading}
 use Rattle.pages.specs.Sheets.{Sheet}
@@ -60,10 +62,14 @@ card =
     -- 3Fh to FFh: not listed
     ∷ []
 
+-- "bit 7 of NCT80 register 00h" initializes, and "Bit 5 of the same register clears itself": INITIALIZATION and Chassis_clear
+abbrev pub effects : List (ℕ × Effects)
+effects = (0x00, record { initialize = 0x80; fleeting = 0x20 }) ∷ []
+
 -- "Readings": "1/16 at 12 (chip 3: 27h and bits 7 to 4 of 06h)"
 abbrev pub temperature : Reading
 temperature = record { width = 12; high = 0x27 ∷ []; low = 0x06; bits = 0xF0; unit = 0x10 }
 
 -- "it has no identity rule here"; "chip 3: none" of the fan tables
 abbrev pub sheet : Sheet
-sheet = record { number = 3; size = 256; banks = oneBank; card = card; identity = []; tables = []; temperatures = temperature ∷ [] }
+sheet = record { number = 3; size = 256; banks = oneBank; card = card; effects = effects; identity = []; tables = []; temperatures = temperature ∷ [] }

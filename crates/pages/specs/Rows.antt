@@ -5,6 +5,7 @@ use mathlib.Core.Bool.{Bool, true, cond, _&&_}
 use mathlib.Core.List.{List, [], _∷_, _++_, map}
 use lib.Dec.{eqb}
 use lib.ListN.{getD}
+use Rattle.pages.specs.declared.Effects.{Effects}
 use Rattle.pages.specs.declared.Masks.{Masks}
 use Rattle.pages.specs.declared.Ground.{Ground}
 use Rattle.pages.specs.declared.Register.{Register}
@@ -54,6 +55,15 @@ row writable clears power = record { writable = writable; clears = clears; power
 -- what a write goes by
 abbrev pub masksIn : Row → Masks
 masksIn r = record { writable = r .writable; clears = r .clears }
+
+-- a register that only stores has no effects ..
+abbrev pub noEffects : Effects
+noEffects = record { initialize = 0x00; fleeting = 0x00 }
+
+-- .. and so has every one that a page does not list with some
+abbrev pub effectsIn : List (ℕ × Effects) → ℕ → Effects
+effectsIn [] position = noEffects
+effectsIn (l ∷ ls) position = cond (eqb (l .0) position) (l .1) (effectsIn ls position)
 
 -- a fan table: where its settings stand (temperatures, and critical where there is one) and where its speeds stand, in register order, and what its
 -- curve is

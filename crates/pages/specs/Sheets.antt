@@ -5,6 +5,7 @@ use mathlib.Core.Bool.{Bool, true, false, cond, _&&_}
 use mathlib.Core.List.{List, [], _∷_, _++_, map}
 use lib.Dec.{eqb, leb}
 use lib.ListN.{length, getD, take, drop}
+use Rattle.pages.specs.declared.Effects.{Effects}
 use Rattle.pages.specs.declared.Ground.{Ground}
 use Rattle.pages.specs.declared.Register.{Register}
 use Rattle.pages.specs.declared.Stretch.{Stretch}
@@ -44,6 +45,8 @@ pub record Sheet : Type 0 where
   -- how its registers stand in banks
   pub banks : Banks
   pub card : List Line
+  -- the registers whose bits do more, where a 1 is written, than stand there
+  pub effects : List (ℕ × Effects)
   -- every register that counts; where there is none, nothing is confirmed
   pub identity : List Required
   -- the fan tables, with the numbers from 1 on

@@ -24,6 +24,12 @@ pub struct Masks {
     pub clears: u8,
 }
 
+// What bits of a register do where a 1 is written, beside being stored: those that initialize the chip, and those that clear themselves.
+pub struct Effects {
+    pub initialize: u8,
+    pub fleeting: u8,
+}
+
 // A register of a fan table: where it stands in the image, and what a write does there.
 pub struct Register {
     pub position: usize,
@@ -92,6 +98,12 @@ pub enum Fan {
 pub const NO_MASKS: Masks = Masks {
     writable: 0x00,
     clears: 0x00,
+};
+
+// A register that only stores.
+pub const NO_EFFECTS: Effects = Effects {
+    initialize: 0x00,
+    fleeting: 0x00,
 };
 
 // Behind the last register of a table.

@@ -6,21 +6,23 @@ use Prim.Native.Nat.{ℕ, zero, suc, _+_, _/_, _%_, _^_, _≤_, _<_}
 use native.Mathlib.Nat.{mod-eq-of-lt}
 use native.Mathlib.Omega.{arith}
 use mathlib.Core.Path.{_≡_, refl, sym, ap, ap₂, subst, _∙_}
-use mathlib.Core.Bool.{Bool, true, false, So, cond, not, true≢false}
+use mathlib.Core.Bool.{Bool, true, false, So, cond, not, _&&_, true≢false}
 use mathlib.Core.List.{List, [], _∷_, _++_, map}
-use borrow.Author.Tests.{eqb-true, eqb-false, ltb-true, not-true, eq-eqb}
+use borrow.Author.Tests.{eqb-true, eqb-false, not-true, eq-eqb}
 use lib.Bits.{bitAnd, and-le-r, and-zero-r}
 use lib.Dec.{eqb, ltb}
 use lib.ListN.{length, getD, take, length-map}
 use lib.Seq.{take-all}
 use Rattle.pages.specs.declared.Chip.{Chip}
-use Rattle.pages.specs.Banks.{Banks, sharedIn, standsIn, asideIn, noBank, ready, selectsFrom}
+use Rattle.pages.specs.Banks.{Banks, standsIn, asideIn, noBank, ready, selectsFrom}
 use Rattle.pages.specs.Rows.{every, masksIn, positions}
 use Rattle.pages.specs.Cards.{sheetOf, banksOf, rowOf, sizeOf, tableOf}
 use Rattle.pages.proofs.Every.{both}
-use Rattle.pages.proofs.Sound.{seenAt, reached, noneOf, stands, selecting, sound-sheet}
-use Rattle.images.specs.Bytes.{selected, position, placed, written}
+use Rattle.pages.proofs.Acting.{Taking, taking-facts, effects-quiet}
+use Rattle.pages.proofs.Sound.{seenAt, reached, noneOf, quiet, stands, taking, selecting, sound-sheet}
+use Rattle.images.specs.Bytes.{selected, position, placed, landed, written}
 use Rattle.images.proofs.Laws.{storedAt-length, storedAt-other, storedAt-under, storedAt-there}
+use Rattle.images.proofs.Writes.{landed-alone, landed-length}
 use Rattle.images.proofs.Landing.{lands, selects, stands-shared, shared-plain}
 use Rattle.scripts.specs.Scripts.{Pair, routedFrom, routed, addressed, bus}
 use Rattle.scripts.specs.Played.{laid, played, stops, touched}
@@ -29,8 +31,7 @@ use Rattle.scripts.specs.Rules.{Outside}
 pub played-length : (chip : Chip) (ws : List Pair) (image : List ℕ) → length (played chip ws image) ≡ length image
 played-length chip [] image = refl
 played-length chip (w ∷ ws) image =
-    let at = position chip image (w .0) in
-    played-length chip ws (written chip (w .0) (w .1) image) ∙ storedAt-length (masksIn (rowOf chip at)) at (w .1) image
+    played-length chip ws (written chip (w .0) (w .1) image) ∙ landed-length chip (position chip image (w .0)) (w .1) image
 
 pub laid-append : (chip : Chip) (xs ys : List Pair) (image : List ℕ) → laid chip (xs ++ ys) image ≡ laid chip ys (laid chip xs image)
 laid-append chip [] ys image = refl
@@ -70,8 +71,11 @@ none-outside p (q ∷ qs) t =
 
 -- what the test says of such a register
 module _ (chip : Chip) (p : ℕ) (t : So (stands (sheetOf chip) p)) where
-  within : So (reached (banksOf chip) p) × So (noneOf (asideIn (banksOf chip)) p)
+  within : So (reached (banksOf chip) p) × So (noneOf (asideIn (banksOf chip)) p && quiet (sheetOf chip) p)
   within = both (reached (banksOf chip) p) _ (both (ltb p (sizeOf chip)) _ t .1)
+
+  aside : So (noneOf (asideIn (banksOf chip)) p) × So (quiet (sheetOf chip) p)
+  aside = both (noneOf (asideIn (banksOf chip)) p) _ (within .1)
 
   parts : So (seenAt (banksOf chip) p) × So (eqb (bitAnd (p / 256) (banksOf chip .bits)) (p / 256))
   parts = both (seenAt (banksOf chip) p) _ (within .0)
@@ -89,13 +93,14 @@ module _ (chip : Chip) (p : ℕ) (t : So (stands (sheetOf chip) p)) where
 
   -- and it selects no bank
   pub beside : Outside p (asideIn (banksOf chip))
-  beside = none-outside p (asideIn (banksOf chip)) (within .1)
+  beside = none-outside p (asideIn (banksOf chip)) (aside .0)
 
-  -- a write on the bus lands there while its bank is selected
+  -- a write on the bus lands there while its bank is selected, and touches nothing else
   lands-there : (byte : ℕ) (image : List ℕ) → selected chip image ≡ p / 256 → written chip (p % 256) byte image ≡ placed chip p byte image
   lands-there byte image e =
-      ap (λ (at : ℕ). placed chip at byte image)
+      ap (λ (at : ℕ). landed chip at byte image)
       (lands chip image (p % 256) ∙ ap (λ (bank : ℕ). standsIn (banksOf chip) bank (p % 256)) e ∙ at-home)
+      ∙ landed-alone chip p byte image (effects-quiet chip p (aside .1))
 
   -- with one bank only, that is always so
   only-bank : (image : List ℕ) → eqb (banksOf chip .bits) 0 ≡ true → selected chip image ≡ p / 256
@@ -123,36 +128,22 @@ module _ (chip : Chip) (some : eqb (banksOf chip .bits) 0 ≡ false) where
   abbrev select : ℕ
   select = banksOf chip .select
 
-  tested : So (selecting (sheetOf chip) select)
+  tested : So (taking (sheetOf chip) (banksOf chip .bits) select) × So (quiet (sheetOf chip) select)
   tested =
-      both (selecting (sheetOf chip) select) _
-      (subst (λ (one : Bool). So (every (selecting (sheetOf chip)) (cond one [] (select ∷ [])))) some (sound-sheet chip .selects)) .0
+      both (taking (sheetOf chip) (banksOf chip .bits) select) _
+      (both (selecting (sheetOf chip) select) _
+      (subst (λ (one : Bool). So (every (selecting (sheetOf chip)) (cond one [] (select ∷ [])))) some (sound-sheet chip .selects)) .0)
 
-  record Select : Type 0 where
-    inside : select < sizeOf chip
-    address : select < 2 ^ 8
-    shared : sharedIn (banksOf chip) select ≡ true
-    takes : bitAnd (rowOf chip select .writable) (banksOf chip .bits) ≡ banksOf chip .bits
+  facts : Taking chip (banksOf chip .bits) select
+  facts = taking-facts chip (banksOf chip .bits) select (tested .0)
 
-  facts : Select
-  unfolding rowOf
-  facts =
-      let one = both (ltb select (sizeOf chip)) _ tested in
-      let two = both (ltb select (2 ^ 8)) _ (one .1) in
-      let three = both (sharedIn (banksOf chip) select) _ (two .1) in
-      record {
-        inside = ltb-true select (sizeOf chip) (one .0);
-        address = ltb-true select (2 ^ 8) (two .0);
-        shared = three .0;
-        takes = eqb-true (bitAnd (rowOf chip select .writable) (banksOf chip .bits)) (banksOf chip .bits) (three .1);
-      }
-
-  -- it lands at the bank select register whichever bank is selected ..
+  -- it lands at the bank select register whichever bank is selected, and touches nothing else ..
   select-lands : (bank : ℕ) (image : List ℕ) → written chip (select % 256) bank image ≡ placed chip select bank image
   select-lands bank image =
       ap (λ (address : ℕ). written chip address bank image) (mod-eq-of-lt (facts .address))
-      ∙ ap (λ (at : ℕ). placed chip at bank image)
+      ∙ ap (λ (at : ℕ). landed chip at bank image)
       (lands chip image select ∙ stands-shared (banksOf chip) (selected chip image) select (facts .shared))
+      ∙ landed-alone chip select bank image (effects-quiet chip select (tested .1))
 
   -- .. and selects
   select-selects : (bank : ℕ) (image : List ℕ) → bank < 2 ^ 8 → length image ≡ sizeOf chip → bitAnd bank (banksOf chip .bits) ≡ bank
