@@ -47,7 +47,7 @@ pub fn masks_of(chip: Chip, position: usize) -> Masks
     }
 }
 
-// What bits of a register of the image do, where a 1 is written, beside being stored.
+// The bits of a register of the image that do more than stand there; none behind the card's end.
 pub fn effects_of(chip: Chip, position: usize) -> Effects
     ensures { λ r. ⌜ Acts chip position r ⌝ }
 {

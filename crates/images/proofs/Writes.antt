@@ -3,9 +3,9 @@
 -- Assumes nothing.
 use Prim.Native.Nat.{ℕ, _-_, _^_, _<_}
 use native.Mathlib.Omega.{arith}
-use mathlib.Core.Path.{_≡_, refl, ap, _∙_}
-use mathlib.Core.Bool.{Bool, true, false, cond, not}
-use mathlib.Core.List.{List}
+use mathlib.Core.Path.{_≡_, refl, sym, ap, subst, _∙_}
+use mathlib.Core.Bool.{Bool, true, false, So, cond, not}
+use mathlib.Core.List.{List, [], map}
 use mathlib.Core.Logic.{inl, inr}
 use borrow.Author.Tests.{eq-eqb}
 use lib.Bits.{bitAnd, and-zero-r, and-le-l}
@@ -17,11 +17,12 @@ use Rattle.pages.specs.declared.Chip.{Chip}
 use Rattle.pages.specs.declared.Effects.{Effects}
 use Rattle.pages.specs.declared.Named.the-variants.{Known}
 use Rattle.pages.specs.Rows.{masksIn, maskOf, noEffects}
-use Rattle.pages.specs.Cards.{chipOf, rowOf, effectsOf, sizeOf}
+use Rattle.pages.specs.Cards.{sheetOf, chipOf, rowOf, effectsOf, sizeOf}
 use Rattle.pages.proofs.Acting as acting
 use Rattle.pages.proofs.Apart.{row-narrow}
 use Rattle.pages.proofs.Columns.{column-length, column-at}
-use Rattle.images.specs.Bytes.{placed, initialByte, initialized, initializes, settled, landed, position, seen}
+use Rattle.pages.proofs.Sound.{noneOf}
+use Rattle.images.specs.Bytes.{placed, initialByte, initialized, initializes, settled, landed, position, written, seen}
 use Rattle.images.specs.Contracts.{WritesByte}
 use Rattle.images.proofs.Laws.{stored-under, storedAt-length, storedAt-other, storedAt-under, storedAt-closed}
 use Rattle.images.proofs.Masks.{without-gone}
@@ -115,6 +116,14 @@ module _ (chip : Chip) (position byte : ℕ) (image : List ℕ) where
               (f .0 .takes) (omega (arith, h)) (omega (arith, long, f .0 .inside))
               ∙ without-gone 8 byte (effectsOf chip position .fleeting)
               (omega (arith, f .0 .takes, and-le-l (rowOf chip position .writable) (effectsOf chip position .fleeting), row-narrow chip position .0))
+
+-- and so is every write of a chip whose page lists no effects
+pub written-alone : (chip : Chip) (address byte : ℕ) (image : List ℕ) → sheetOf chip .effects ≡ []
+    → written chip address byte image ≡ placed chip (position chip image address) byte image
+written-alone chip address byte image e =
+    let at = position chip image address in
+    landed-alone chip at byte image
+    (acting.effects-quiet chip at (subst (λ (ls : List (ℕ × Effects)). So (noneOf (map (λ l. l .0) ls) at)) (sym e) refl))
 
 -- "A write to a row without masks is accepted and changes nothing."
 pub write-closed : (number : ℕ) (chip : Chip) (address byte : ℕ) (old : List ℕ) {r : Outcome} {new : List ℕ}

@@ -65,7 +65,7 @@ pub fn masks(position: usize) -> Masks
     }
 }
 
-// What bits do beside being stored: of 00h INITIALIZATION and Chassis_clear.
+// The bits that do more than stand there: INITIALIZATION and Chassis_clear.
 pub fn effects(position: usize) -> Effects
     ensures { λ r. ⌜ Acts Nct80 position r ⌝ }
 {

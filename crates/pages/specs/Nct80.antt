@@ -62,7 +62,7 @@ card =
     -- 3Fh to FFh: not listed
     ∷ []
 
--- "bit 7 of NCT80 register 00h" initializes, and "Bit 5 of the same register clears itself": INITIALIZATION and Chassis_clear
+-- INITIALIZATION, "bit 7 of NCT80 register 00h", and Chassis_clear: "Bit 5 of the same register clears itself"
 abbrev pub effects : List (ℕ × Effects)
 effects = (0x00, record { initialize = 0x80; fleeting = 0x20 }) ∷ []
 

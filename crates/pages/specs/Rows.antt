@@ -56,11 +56,11 @@ row writable clears power = record { writable = writable; clears = clears; power
 abbrev pub masksIn : Row → Masks
 masksIn r = record { writable = r .writable; clears = r .clears }
 
--- a register that only stores has no effects ..
+-- a register that only stores has no bits with effects ..
 abbrev pub noEffects : Effects
 noEffects = record { initialize = 0x00; fleeting = 0x00 }
 
--- .. and so has every one that a page does not list with some
+-- .. and that is every one that a page does not list
 abbrev pub effectsIn : List (ℕ × Effects) → ℕ → Effects
 effectsIn [] position = noEffects
 effectsIn (l ∷ ls) position = cond (eqb (l .0) position) (l .1) (effectsIn ls position)

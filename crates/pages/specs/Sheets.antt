@@ -45,7 +45,7 @@ pub record Sheet : Type 0 where
   -- how its registers stand in banks
   pub banks : Banks
   pub card : List Line
-  -- the registers whose bits do more, where a 1 is written, than stand there
+  -- the registers with bits that do more than stand there
   pub effects : List (ℕ × Effects)
   -- every register that counts; where there is none, nothing is confirmed
   pub identity : List Required

@@ -24,7 +24,7 @@ pub struct Masks {
     pub clears: u8,
 }
 
-// What bits of a register do where a 1 is written, beside being stored: those that initialize the chip, and those that clear themselves.
+// The bits of a register that do more than stand there: those that initialize the chip where a 1 is written, and those that clear themselves.
 pub struct Effects {
     pub initialize: u8,
     pub fleeting: u8,
