@@ -1,16 +1,7 @@
-// Chips 4 and 5 on the bus, with their banks: `bus chip C write AA BB changed`, then each position that has changed and its byte, and
-// `bus chip C read AA byte BB`. `bank chip C select SS reads D writes D` has a digest of what every address gives, and of the image after a write to
-// every address but that of the select register.
-use crate::image_calls;
+// Chips 4 and 5 on the bus, with their banks. `bank chip C select SS reads D writes D` has a digest of what every address gives, and of the image after a
+// write to every address but that of the select register.
+use crate::bus;
 use images::ByteRead;
-
-pub fn read(chip: u8, image: &[u8], address: u8) {
-    figures_printing::labelled(b"bus chip ", chip as u64);
-    figures_printing::text(b" read ");
-    figures_printing::byte(address);
-    image_calls::read(chip, image, address);
-    figures_printing::line_end();
-}
 
 // The address of the select register, which is its position too.
 fn select_at(chip: u8) -> u8 {
@@ -30,28 +21,14 @@ pub fn select(chip: u8, image: &mut [u8], byte: u8) {
     put(image, select_at(chip) as usize, byte);
 }
 
-// Of two images that hold the same, the new one is written first: what then differs is shown.
-pub fn write(chip: u8, old: &mut [u8], new: &mut [u8], address: u8, byte: u8) {
-    images::write(chip, new, address, byte);
-    figures_printing::labelled(b"bus chip ", chip as u64);
-    figures_printing::text(b" write ");
-    figures_printing::byte(address);
-    figures_printing::space();
-    figures_printing::byte(byte);
-    figures_printing::text(b" changed");
-    figures_printing::changes(old, new);
-    figures_printing::line_end();
-    images::write(chip, old, address, byte);
-}
-
 // The bits of the select register that can't be written stay, 7 to 3 of chip 4 and 6 to 3 of chip 5, and what is seen in every bank is read only in each.
 fn kept_bits(chip: u8, old: &mut [u8], new: &mut [u8], held: u8, byte: u8, seen: [u8; 3]) {
     select(chip, old, held);
     select(chip, new, held);
-    write(chip, old, new, select_at(chip), byte);
-    write(chip, old, new, seen[0], 0xFF);
-    write(chip, old, new, seen[1], 0xFF);
-    write(chip, old, new, seen[2], 0xFF);
+    bus::write(chip, old, new, select_at(chip), byte);
+    bus::write(chip, old, new, seen[0], 0xFF);
+    bus::write(chip, old, new, seen[1], 0xFF);
+    bus::write(chip, old, new, seen[2], 0xFF);
 }
 
 // The request's example.
@@ -60,19 +37,19 @@ fn example_4() {
     let mut new = [0u8; 1280];
     images::reset(4, &mut old);
     images::reset(4, &mut new);
-    write(4, &mut old, &mut new, 0xFF, 0x83);
-    read(4, &new, 0xFF);
-    read(4, &new, 0x20);
-    read(4, &new, 0x7A);
-    write(4, &mut old, &mut new, 0x20, 0x55);
-    read(4, &new, 0x20);
-    write(4, &mut old, &mut new, 0xFF, 0x06);
-    read(4, &new, 0x20);
-    read(4, &new, 0x7B);
-    write(4, &mut old, &mut new, 0x20, 0x11);
-    write(4, &mut old, &mut new, 0xFF, 0x04);
-    read(4, &new, 0x10);
-    read(4, &new, 0x20);
+    bus::write(4, &mut old, &mut new, 0xFF, 0x83);
+    bus::read(4, &new, 0xFF);
+    bus::read(4, &new, 0x20);
+    bus::read(4, &new, 0x7A);
+    bus::write(4, &mut old, &mut new, 0x20, 0x55);
+    bus::read(4, &new, 0x20);
+    bus::write(4, &mut old, &mut new, 0xFF, 0x06);
+    bus::read(4, &new, 0x20);
+    bus::read(4, &new, 0x7B);
+    bus::write(4, &mut old, &mut new, 0x20, 0x11);
+    bus::write(4, &mut old, &mut new, 0xFF, 0x04);
+    bus::read(4, &new, 0x10);
+    bus::read(4, &new, 0x20);
     kept_bits(4, &mut old, &mut new, 0x2C, 0x03, [0x7A, 0x7B, 0x7C]);
 }
 
@@ -83,24 +60,24 @@ fn example_5() {
     let mut new = [0u8; 768];
     images::reset(5, &mut old);
     images::reset(5, &mut new);
-    write(5, &mut old, &mut new, 0x00, 0x02);
-    read(5, &new, 0x00);
-    read(5, &new, 0x30);
-    read(5, &new, 0xC5);
-    read(5, &new, 0x0D);
-    write(5, &mut old, &mut new, 0x30, 0xA8);
-    read(5, &new, 0x30);
-    write(5, &mut old, &mut new, 0x00, 0x05);
-    read(5, &new, 0x30);
-    read(5, &new, 0xC5);
-    read(5, &new, 0x0E);
-    write(5, &mut old, &mut new, 0x30, 0x11);
-    write(5, &mut old, &mut new, 0x00, 0xF8);
-    read(5, &new, 0x00);
-    read(5, &new, 0x0D);
-    read(5, &new, 0x0F);
-    read(5, &new, 0x30);
-    read(5, &new, 0xC5);
+    bus::write(5, &mut old, &mut new, 0x00, 0x02);
+    bus::read(5, &new, 0x00);
+    bus::read(5, &new, 0x30);
+    bus::read(5, &new, 0xC5);
+    bus::read(5, &new, 0x0D);
+    bus::write(5, &mut old, &mut new, 0x30, 0xA8);
+    bus::read(5, &new, 0x30);
+    bus::write(5, &mut old, &mut new, 0x00, 0x05);
+    bus::read(5, &new, 0x30);
+    bus::read(5, &new, 0xC5);
+    bus::read(5, &new, 0x0E);
+    bus::write(5, &mut old, &mut new, 0x30, 0x11);
+    bus::write(5, &mut old, &mut new, 0x00, 0xF8);
+    bus::read(5, &new, 0x00);
+    bus::read(5, &new, 0x0D);
+    bus::read(5, &new, 0x0F);
+    bus::read(5, &new, 0x30);
+    bus::read(5, &new, 0xC5);
     kept_bits(5, &mut old, &mut new, 0x7A, 0x81, [0x0D, 0x0E, 0x0F]);
 }
 

@@ -1,5 +1,5 @@
 // The initialization bit of chip 3, in the lines of a write and of a read on the bus.
-use crate::banks;
+use crate::bus;
 use figures_printing::FILL;
 
 // The request's image.
@@ -15,30 +15,30 @@ fn example() -> [u8; 256] {
 
 // What it holds where the request says so, and at 06h.
 fn read_back(image: &[u8]) {
-    banks::read(3, image, 0x00);
-    banks::read(3, image, 0x01);
-    banks::read(3, image, 0x05);
-    banks::read(3, image, 0x06);
-    banks::read(3, image, 0x08);
-    banks::read(3, image, 0x20);
-    banks::read(3, image, 0x2A);
-    banks::read(3, image, 0x3E);
-    banks::read(3, image, 0x90);
+    bus::read(3, image, 0x00);
+    bus::read(3, image, 0x01);
+    bus::read(3, image, 0x05);
+    bus::read(3, image, 0x06);
+    bus::read(3, image, 0x08);
+    bus::read(3, image, 0x20);
+    bus::read(3, image, 0x2A);
+    bus::read(3, image, 0x3E);
+    bus::read(3, image, 0x90);
 }
 
 // Its two writes, and a third: of 7Fh all but bit 5 is stored.
 fn worked_example() {
     let mut old = example();
     let mut new = example();
-    banks::write(3, &mut old, &mut new, 0x00, 0xC1);
+    bus::write(3, &mut old, &mut new, 0x00, 0xC1);
     read_back(&new);
-    banks::write(3, &mut old, &mut new, 0x00, 0x21);
-    banks::write(3, &mut old, &mut new, 0x00, 0x7F);
+    bus::write(3, &mut old, &mut new, 0x00, 0x21);
+    bus::write(3, &mut old, &mut new, 0x00, 0x7F);
 }
 
 // The first write to an image whose bytes are all one.
 fn write_to(chip: u8, held: u8, address: u8, byte: u8) {
-    banks::write(chip, &mut [held; 256], &mut [held; 256], address, byte);
+    bus::write(chip, &mut [held; 256], &mut [held; 256], address, byte);
 }
 
 // Bit 7 of 00h of chip 3 set before; clear in the byte that is written, and set in one that goes to another register; and of chips 1 and 2 bit 7 of FCh

@@ -1,5 +1,6 @@
 // Prints the rows of the cards, and what the calls on an image answer.
 mod banks;
+mod bus;
 mod identity_bits;
 mod image_calls;
 mod initialization;

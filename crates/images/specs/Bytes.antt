@@ -34,11 +34,12 @@ storedAt masks position byte image = set image position (stored masks (getD imag
 abbrev pub placed : Chip → ℕ → ℕ → List ℕ → List ℕ
 placed chip position byte image = storedAt (masksIn (rowOf chip position)) position byte image
 
--- "all writable bits of the card .. have power-on values; read-only bits .. stay": of a byte ..
+-- "all writable bits of the card, that bit included, have power-on values; read-only bits and the watch's facts stay". A watch stands beside the image,
+-- and no write has one. So of a byte ..
 abbrev pub initialByte : Row → ℕ → ℕ
 initialByte row old = stored (maskOf (row .writable)) old (row .power)
 
--- .. and so of an image
+-- .. and of an image
 unfoldable pub initialized : Chip → List ℕ → List ℕ
 initialized chip image = column (length image) (λ k. initialByte (rowOf chip k) (getD image k 0))
 

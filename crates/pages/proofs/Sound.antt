@@ -95,7 +95,7 @@ selecting sheet position = taking sheet (sheet .banks .bits) position && quiet s
 abbrev pub resting : Sheet → ℕ → ℕ → Bool
 resting sheet bits position = taking sheet bits position && eqb (bitAnd (rowIn (sheet .card) position .power) bits) 0
 
--- so are all bits with effects
+-- of such bits are those that have effects
 abbrev pub effective : Sheet → ℕ × Effects → Bool
 effective sheet l = resting sheet (l .1 .initialize) (l .0) && resting sheet (l .1 .fleeting) (l .0)
 

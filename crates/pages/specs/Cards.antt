@@ -70,6 +70,7 @@ banksOf chip = sheetOf chip .banks
 unfoldable pub rowOf : Chip → ℕ → Row
 rowOf chip position = rowIn (cardOf chip) position
 
+-- the bits of a register that do more than stand there
 unfoldable pub effectsOf : Chip → ℕ → Effects
 effectsOf chip position = effectsIn (sheetOf chip .effects) position
 
