@@ -14,15 +14,16 @@
  * and yk_value(), or with the function that stands beside a prototype below. Look at the refusal
  * first.
  *
- * A REFUSED CALL has value 0 and leaves every lent buffer as it was. (One exception in the value:
- * a refused yk_sample still carries the watch, unchanged.) Where several refusals apply, the
- * answer is the first in the order in which the prototype's comment lists them.
+ * A REFUSED CALL has value 0 and leaves every lent buffer as it was. (One exception in the value: a
+ * refused call that takes a watch, yk_sample, yk_read, yk_reset or yk_sample_image, still carries
+ * its facts, unchanged.) Where several refusals apply, the answer is the first in the order in
+ * which the prototype's comment lists them.
  *
  * BUFFERS. A buffer is a pointer and then its length in bytes (of yk_run: in samples). What lies
  * past the length is neither read nor written. A pointer must not be null, not even with length 0.
- * A buffer that is written (image of yk_write, yk_reset and yk_play; out) must not overlap another
- * buffer of the same call: to play a table of an image onto the same image, copy the table's bytes
- * out first.
+ * A buffer that is written (image of yk_write, yk_read, yk_reset, yk_sample_image and yk_play; out)
+ * must not overlap another buffer of the same call: to play a table of an image onto the same
+ * image, copy the table's bytes out first.
  *
  * AN IMAGE is the 256 register bytes of one chip, indexed by address (chip 1: bank 0), the 1,280 of
  * chip 4, five banks of 256 one after the other, or the 768 of chip 5, three banks: bank b's
@@ -30,6 +31,12 @@
  * only; the caller moves bytes between the image and the chip. On chip 1 the caller first makes
  * sure of bank 0 (bit 0 of 00h is zero), which identity does not ask for: with bank 1 selected the
  * same addresses are other registers.
+ *
+ * A CHIP'S STATE is its image and, beside it, a watch: its behaviour, which stays, and its facts,
+ * hot and pending, for which 256 bytes of registers have no room. The caller keeps the watch as two
+ * bytes, behaviour and facts, and after every call that takes it has facts = yk_facts(answer). Only
+ * chip 3 has facts of its own, by its status registers 01h and 02h; with another chip they come
+ * back as they were. A call on an image without a watch (yk_write, yk_play) leaves the facts.
  *
  * BANKS are those of chips 4 and 5. yk_write and yk_read take an address, as the bus does, and land
  * in the bank that is selected: bits 2 to 0 of the bank select register, whatever its other bits
@@ -138,7 +145,7 @@ static inline uint8_t yk_refusal(uint64_t answer) {
     return (uint8_t)(answer & 0xFFu);
 }
 
-/* The value; 0 when the call was refused (but see yk_sample). */
+/* The value; 0 when the call was refused (but see A REFUSED CALL). */
 static inline uint64_t yk_value(uint64_t answer) {
     return answer >> 8;
 }
@@ -168,7 +175,10 @@ static inline uint8_t yk_record_table(uint64_t answer) {
     return (uint8_t)((yk_value(answer) >> 16) & 0xFFu);
 }
 
-/* yk_sample, yk_run and yk_acknowledge: hot, pending and the output after the call, each 0 or 1. */
+/*
+ * Calls that answer a watch (yk_sample, yk_run, yk_acknowledge, yk_read, yk_reset and
+ * yk_sample_image): hot, pending and the output after the call, each 0 or 1.
+ */
 static inline uint8_t yk_facts_hot(uint64_t answer) {
     return (uint8_t)(yk_value(answer) & 1u);
 }
@@ -184,6 +194,11 @@ static inline uint8_t yk_facts(uint64_t answer) {
     return (uint8_t)(yk_value(answer) & 3u);
 }
 
+/* The byte of an accepted yk_read. */
+static inline uint8_t yk_read_byte(uint64_t answer) {
+    return (uint8_t)((yk_value(answer) >> 8) & 0xFFu);
+}
+
 /* ---- Register images */
 
 /*
@@ -197,23 +212,29 @@ static inline uint8_t yk_facts(uint64_t answer) {
  * initializes the chip. Then every writable bit of the image has its power-on value, so that 00h
  * holds 08h, and the bits that can't be written are as they were: 01h, 02h, 20h to 29h, 3Eh, bit 0
  * of 06h, bits 7 to 1 of 07h, bits 7 to 3 of 09h, and every address that the sheet doesn't list. It
- * is no acknowledge: the facts of a watch stay.
+ * is no acknowledge: the facts of a watch stay. No write changes a status bit.
  */
 uint64_t yk_write(uint8_t chip, uint8_t *image, size_t image_length, uint8_t address, uint8_t byte);
 
 /*
  * Reads one byte: image[address], or of chips 4 and 5 that address in the bank selected (see
- * BANKS). Nothing changes, nothing is cleared by reading.
- * Refusals: 3, 8. Value: the byte, (uint8_t)yk_value(answer).
+ * BANKS). A read of 01h or 02h of chip 3 gives the byte, then clears that register, all eight bits,
+ * and is the acknowledge: pending goes off and hot stays, also where the byte was 00h. Every other
+ * read changes nothing. To look at a status register without clearing it, look into the image.
+ * Refusals: 3, 8. Value: hot + 2 * pending + 4 * output + 256 * the byte; yk_read_byte(answer), and
+ * for the watch yk_facts(answer) and so on. Afterwards: the image is as it was, but that 01h or 02h
+ * of chip 3 is 00h where it was read.
  */
-uint64_t yk_read(uint8_t chip, const uint8_t *image, size_t image_length, uint8_t address);
+uint64_t yk_read(uint8_t chip, uint8_t *image, size_t image_length, uint8_t address,
+                 uint8_t behaviour, uint8_t facts);
 
 /*
  * Fills the image with the chip's power-on bytes; of chips 4 and 5 all banks, and bank 0 is
- * selected.
- * Refusals: 3, 8. Value: 0. Afterwards: all bytes of the image are those of power-on.
+ * selected. Of chip 3 both facts go off.
+ * Refusals: 3, 8. Value: as of yk_sample. Afterwards: all bytes of the image are those of power-on.
  */
-uint64_t yk_reset(uint8_t chip, uint8_t *image, size_t image_length);
+uint64_t yk_reset(uint8_t chip, uint8_t *image, size_t image_length, uint8_t behaviour,
+                  uint8_t facts);
 
 /*
  * Whether the image is that of the chip, by its identity registers. Chip 1: FDh is 50h, FEh is C3h,
@@ -305,6 +326,28 @@ uint64_t yk_run(uint8_t behaviour, uint8_t facts, const int16_t *samples, size_t
  * Refusals: none. Value: as of yk_sample.
  */
 uint64_t yk_acknowledge(uint8_t behaviour, uint8_t facts);
+
+/* ---- Samples of chip 3 */
+
+/*
+ * One sample of an NCT80: its temperature, a 12-bit step count (1/16 degree, -2048 to 2047), and
+ * the words of IN0 to IN6. It is stored in the image, the temperature at 27h and in bits 7 to 4 of
+ * 06h, the high byte of INn at 20h + n, and sets status bits there, which only yk_read and yk_reset
+ * clear:
+ *   01h bit n where INn, bits 15 to 6 of its word, is strictly above 4 times its high limit, 2Ah +
+ *       2n, or strictly below 4 times its low limit, 2Bh + 2n
+ *   02h bit 0 where the watch, which takes the temperature as yk_sample would, with the limits 38h
+ *       and 39h as signed degrees, then has its output on
+ *   02h bit 5 where the temperature is strictly above 3Ah, signed degrees
+ * A channel that is disabled, bit n of 08h for INn and bit 7 for the temperature, is stored as 0
+ * and sets nothing; a disabled temperature leaves the watch as it was. The masks 03h and 04h and
+ * what 00h holds make no difference.
+ * Refusals: 8, 12 (also where the temperature is disabled). Value: as of yk_sample. Afterwards:
+ * only 01h, 02h, bits 7 to 4 of 06h and 20h to 27h may have changed.
+ */
+uint64_t yk_sample_image(uint8_t *image, size_t image_length, uint8_t behaviour, uint8_t facts,
+                         int16_t steps, uint16_t in0, uint16_t in1, uint16_t in2, uint16_t in3,
+                         uint16_t in4, uint16_t in5, uint16_t in6);
 
 /* ---- Plan records */
 

@@ -54,10 +54,19 @@ def place(chip, image, address):
     return 256 * bank + address if bank < BANKS[chip] else None
 
 
+# The registers that a read clears: of the status registers of chip 3 "reading 01h or 02h returns the byte and then clears it".
+STATUS = {3: (0x01, 0x02)}
+
+
 def read(chip, image, address):
-    """In a bank that the sheet lacks "reads give 0"."""
+    """The byte, after which a status register is cleared; every other read changes nothing. In a bank that the sheet lacks "reads give 0"."""
     at = place(chip, image, address)
-    return 0 if at is None else image[at]
+    if at is None:
+        return 0
+    byte = image[at]
+    if at in STATUS.get(chip, ()):
+        image[at] = 0x00
+    return byte
 
 
 def write(chip, image, address, byte):

@@ -17,12 +17,14 @@ from images import identity_bits, identity_in_banks, identity_takes, image_calls
 from readings import inputs, right_aligned, sensors, temperatures, voltages
 from records import records
 from scripts import scripts
+from states import states
 from watch import watches
 
 PROGRAMS = {
     "figures_chips": (rows, image_calls, stored, on_the_bus, initialization, identity_bits, identity_in_banks, identity_takes, no_identity),
     "figures_readings": (temperatures, sensors, voltages, right_aligned, inputs),
     "figures_watch": (watches,),
+    "figures_states": (states,),
     "figures_plans": (curves,),
     "figures_records": (records,),
     "figures_scripts": (scripts,),

@@ -1,7 +1,7 @@
 //! The benchmark: medians over repeated runs of library and model in turn, and their ratio. Both
 //! must add up to the same sums.
 
-use crate::model::{Plan, INPUT, SCRIPT};
+use crate::model::{Plan, Watch, INPUT, NEW, SCRIPT};
 use crate::random::{Draft, Random, PLANNED};
 use crate::subject::{Model, Subject};
 use std::time::Instant;
@@ -19,6 +19,8 @@ struct Ground {
     records: Vec<Vec<u8>>,
     images: Vec<Vec<u8>>,
     writes: Vec<(u8, u8)>,
+    reads: Vec<u8>,
+    samples: Vec<(i16, [u16; 7])>,
     input: Vec<u8>,
     text: Vec<u8>,
 }
@@ -42,6 +44,11 @@ fn ground(seed: u64, chips: Chips) -> Ground {
         images: turns().map(|chip| r.confirmed(chip)).collect(),
         // Without bit 7, which at 00h of chip 3 initializes: that is timed by itself.
         writes: (0..WORK).map(|_| (r.byte(), r.byte() & 0x7F)).collect(),
+        // The status registers among them.
+        reads: (0..WORK).map(|_| r.address()).collect(),
+        samples: (0..WORK)
+            .map(|_| (r.below(4096) as i16 - 2048, [0; 7].map(|_: u16| r.next() as u16)))
+            .collect(),
         plans,
         input,
         text: vec![0; 1 << 16],
@@ -69,7 +76,32 @@ fn initializations<S: Subject>(s: &S, g: &mut Ground) -> u64 {
 fn resets<S: Subject>(s: &S, g: &mut Ground) -> u64 {
     let mut sum = 0;
     for (image, chip) in g.images.iter_mut().zip(g.chips.iter().cycle()) {
-        sum += u64::from(s.reset(*chip, image)) + u64::from(image[0]);
+        let (refusal, watch, _) = s.reset(*chip, image, NEW);
+        sum += u64::from(refusal) + u64::from(watch.hot) + u64::from(image[0]);
+    }
+    sum
+}
+
+fn reads<S: Subject>(s: &S, g: &mut Ground) -> u64 {
+    let (mut sum, mut watch) = (0, NEW);
+    for (image, chip) in g.images.iter_mut().zip(g.chips.iter().cycle()) {
+        for address in &g.reads {
+            let (refusal, byte, after, output) = s.read(*chip, image, watch, *address);
+            sum += u64::from(refusal) + u64::from(byte) + u64::from(output);
+            watch = after;
+        }
+    }
+    sum
+}
+
+fn samples<S: Subject>(s: &S, g: &mut Ground) -> u64 {
+    let (mut sum, mut watch) = (0, NEW);
+    for image in &mut g.images {
+        for (steps, words) in &g.samples {
+            let (refusal, after, output) = s.sample_image(image, watch, *steps, *words);
+            sum += u64::from(refusal) + u64::from(output) + u64::from(image[0x01]) + u64::from(image[0x27]);
+            watch = Watch { pending: false, ..after };
+        }
     }
     sum
 }
@@ -167,5 +199,7 @@ pub fn all<S: Subject>(s: &S, seed: u64) {
     compare("write, chip 3", s, (writes, writes), (seed, &[3]), 50, WORK * WORK);
     compare("initialize, chip 3", s, (initializations, initializations), (seed, &[3]), 50, WORK);
     compare("reset, chip 3", s, (resets, resets), (seed, &[3]), 50, WORK);
+    compare("read, chip 3", s, (reads, reads), (seed, &[3]), 50, WORK * WORK);
+    compare("sample, chip 3", s, (samples, samples), (seed, &[3]), 50, WORK * WORK);
     compare("translate 4,096 bytes", s, (texts, texts), (seed, &[1, 2]), 20, 1);
 }

@@ -3,7 +3,7 @@
 
 use crate::driver::{hold, stop};
 use crate::fence::{Fence, Side};
-use crate::library::{raw_acknowledge, raw_run, raw_sample, Library};
+use crate::library::{raw_acknowledge, raw_read, raw_reset, raw_run, raw_sample, raw_sample_image, Library};
 use crate::model::{self, Plan, Watch};
 use crate::random::{Draft, Random};
 use crate::subject::Subject;
@@ -64,18 +64,42 @@ fn images(g: &mut Ground, r: &mut Random, side: Side) {
         |_, to| model::write(chip, to, address, byte),
         |_, to| s.write(chip, to, address, byte),
     );
-    g.call("reset", side, &[], &image, |_, to| model::reset(chip, to), |_, to| s.reset(chip, to));
-    g.call(
-        "read", side, &image, &[],
-        |from, _| model::read(chip, from, address),
-        |from, _| s.read(chip, from, address),
-    );
+    states(g, r, side, chip, &image);
     g.call("identity", side, &image, &[], |from, _| model::identity(chip, from), |from, _| s.identity(chip, from));
     let table = r.table(chip);
     g.call(
         "asked_of_image", side, &image, &[],
         |from, _| model::asked_of_image(chip, table, from, byte),
         |from, _| s.asked_of_image(chip, table, from, byte),
+    );
+}
+
+/// The calls that take a watch beside an image, from any bits in the facts. The image of a sample is
+/// one of chip 3, whatever it is to the other two.
+fn states(g: &mut Ground, r: &mut Random, side: Side, chip: u8, image: &[u8]) {
+    let (behaviour, facts) = (any_behaviour(r), r.byte());
+    let (watch, address) = (watch_of(behaviour, facts), r.address());
+    g.call(
+        "reset", side, &[], image,
+        |_, to| {
+            let (refusal, after) = model::reset(chip, to, watch);
+            packed(refusal, after)
+        },
+        |_, to| raw_reset(chip, to, behaviour, facts),
+    );
+    g.call(
+        "read", side, &[], image,
+        |_, to| packed_read(model::read(chip, to, watch, address)),
+        |_, to| raw_read(chip, to, address, behaviour, facts),
+    );
+    let (steps, words) = (r.image_steps(image), r.words(image));
+    g.call(
+        "sample_image", side, &[], image,
+        |_, to| {
+            let (refusal, after) = model::sample_image(to, watch, steps, words);
+            packed(refusal, after)
+        },
+        |_, to| raw_sample_image(to, behaviour, facts, steps, words),
     );
 }
 
@@ -181,10 +205,22 @@ fn packed(refusal: u32, watch: Watch) -> u64 {
     u64::from(refusal) + 256 * value
 }
 
+/// A read's answer has the byte in bits 15 to 8 of its value.
+fn packed_read((refusal, byte, watch): (u32, u8, Watch)) -> u64 {
+    packed(refusal, watch) + 65536 * u64::from(byte)
+}
+
+fn any_behaviour(r: &mut Random) -> u8 {
+    if r.once_in(6) {
+        r.byte()
+    } else {
+        [0, 1, 2, 3, 255][r.below(5)]
+    }
+}
+
 /// A run on fenced samples, from any bits in the facts, and the same samples one by one.
 fn runs(g: &mut Ground, r: &mut Random, side: Side) {
-    let behaviour = if r.once_in(6) { r.byte() } else { [0, 1, 2, 3, 255][r.below(5)] };
-    let facts = r.byte();
+    let (behaviour, facts) = (any_behaviour(r), r.byte());
     let (high, low) = r.limits();
     let samples = r.samples((high, low));
     let want = packed(0, model::run(watch_of(behaviour, facts), &samples, high, low));
@@ -229,8 +265,46 @@ fn watches() -> u64 {
                 }
                 calls += 1;
             }
-            calls += 1;
+            calls += 1 + with_image(behaviour, facts);
         }
+    }
+    calls
+}
+
+/// The same of the calls that take an image too: reads of a status register and of another one,
+/// resets, samples that do all there is to do, and refused ones of each.
+fn with_image(behaviour: u8, facts: u8) -> u64 {
+    let watch = watch_of(behaviour, facts);
+    let mut image = [0x5A; 257];
+    (image[0x08], image[0x38], image[0x39]) = (0, 80, 75);
+    let mut calls = 0;
+    let mut same = |what: &str, inputs: &dyn Debug, want: (u64, [u8; 257]), got: (u64, [u8; 257])| {
+        if got != want {
+            stop(what, &(behaviour, facts, inputs), &want, &got);
+        }
+        calls += 1;
+    };
+    let reads = [(3, 256, 0x01), (3, 256, 0x02), (3, 256, 0x03), (3, 257, 0x01), (1, 256, 0x01), (0, 256, 0x02)];
+    for (chip, length, address) in reads {
+        let (mut ours, mut theirs) = (image, image);
+        let want = packed_read(model::read(chip, &mut ours[..length], watch, address));
+        let got = raw_read(chip, &mut theirs[..length], address, behaviour, facts);
+        same("read", &(chip, length, address), (want, ours), (got, theirs));
+    }
+    for (chip, length) in [(3, 256), (3, 255), (2, 256), (6, 256)] {
+        let (mut ours, mut theirs) = (image, image);
+        let (refusal, after) = model::reset(chip, &mut ours[..length], watch);
+        let got = raw_reset(chip, &mut theirs[..length], behaviour, facts);
+        same("reset", &(chip, length), (packed(refusal, after), ours), (got, theirs));
+    }
+    let samples = [(256, 0, 1199), (256, 0, 1200), (256, 0, 1281), (256, 0x80, 1281), (256, 0, 2048), (255, 0, 1281)];
+    for (length, channels, steps) in samples {
+        let (mut ours, mut theirs) = (image, image);
+        (ours[0x08], theirs[0x08]) = (channels, channels);
+        let words = [0x5A00, 0x5A40, 0x59FF, 0x0000, 0xFFFF, 0x5A3F, 0x5A80];
+        let (refusal, after) = model::sample_image(&mut ours[..length], watch, steps, words);
+        let got = raw_sample_image(&mut theirs[..length], behaviour, facts, steps, words);
+        same("sample_image", &(length, channels, steps), (packed(refusal, after), ours), (got, theirs));
     }
     calls
 }

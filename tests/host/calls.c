@@ -1,5 +1,6 @@
 /* Every function once or more through include/yerkhulbaz.h, at figures of the rules paper, of the
- * initialization bit and of chips 4 and 5: the prototypes are those of the library. */
+ * initialization bit, of chip 3's status bits and of chips 4 and 5: the prototypes are those of the
+ * library. */
 #include "yerkhulbaz.h"
 
 #include <stdio.h>
@@ -17,6 +18,16 @@ static void same(const char *what, uint64_t got, uint64_t want) {
 /* An answer: refusal + 256 * value. */
 static uint64_t packed(uint64_t refusal, uint64_t value) {
     return refusal + 256 * value;
+}
+
+/* The answer of a read: the byte stands above the facts, which are hot + 2 * pending + 4 * output. */
+static uint64_t byte_of(uint64_t byte, uint64_t facts) {
+    return packed(0, facts + 256 * byte);
+}
+
+/* A read of a chip whose watch is none: a default one, both facts off. */
+static uint64_t read_at(uint8_t chip, uint8_t *image, size_t length, uint8_t address) {
+    return yk_read(chip, image, length, address, YK_DEFAULT, 0);
 }
 
 /* The paper's example, and its text. */
@@ -71,13 +82,95 @@ static void initialization(void) {
     }
     memcpy(kept, image, sizeof image);
     same("bit 5", yk_write(YK_NCT80, image, YK_IMAGE, 0x00, 0x21), 0);
-    same("00h", yk_read(YK_NCT80, image, YK_IMAGE, 0x00), packed(0, 0x01));
+    same("00h", read_at(YK_NCT80, image, YK_IMAGE, 0x00), byte_of(0x01, 0));
     same("FCh of chip 1", yk_write(YK_NCT7802Y, image, YK_IMAGE, 0xFC, 0xFF), 0);
     same("its byte", image[0xFC], 0xDA);
     same("00h of chip 2", yk_write(YK_F75373S, image, YK_IMAGE, 0x00, 0xFE), 0);
     same("its byte", image[0x00], 0xC0);
     kept[0xFC] = 0xDA;
     same("every other byte", (uint64_t)memcmp(image + 1, kept + 1, sizeof image - 1), 0);
+}
+
+/* A read of chip 3 whose answer is the byte and the facts after it; those are kept. */
+static void reads(const char *what, uint8_t *image, uint8_t address, uint8_t *facts, uint64_t byte,
+                  uint64_t then) {
+    uint64_t answer = yk_read(YK_NCT80, image, YK_IMAGE, address, YK_DEFAULT, *facts);
+    same(what, answer, byte_of(byte, then));
+    same("its byte", yk_read_byte(answer), byte);
+    *facts = yk_facts(answer);
+}
+
+/* Status bits, the worked example: IN0 above its high limit and 81 degrees; each status register
+ * is read twice; then IN0 at its limit and 78 degrees, which is still hot. */
+static void status(void) {
+    uint8_t image[YK_IMAGE], kept[YK_IMAGE], facts = 0;
+    uint64_t answer;
+    size_t k;
+
+    memset(image, 0, sizeof image);
+    image[0x00] = 0x01;
+    for (k = 0x2A; k < 0x38; k += 2) {
+        image[k] = 0xFF;
+    }
+    image[0x2A] = 0x80;
+    image[0x2B] = 0x40;
+    image[0x2D] = 0x20;
+    memcpy(image + 0x38, "\x50\x4B\x7F\x80", 4);
+
+    /* Refused: no byte and no fact altered, and the answer has the facts as they were. */
+    memcpy(kept, image, sizeof image);
+    answer = yk_sample_image(image, 255, YK_DEFAULT, 3, 2048, 0, 0, 0, 0, 0, 0, 0);
+    same("sample of a short image", answer, packed(YK_REFUSED_IMAGE, 3 + 4));
+    answer = yk_sample_image(image, YK_IMAGE, YK_COMPARATOR, 1, 2048, 0, 0, 0, 0, 0, 0, 0);
+    same("sample of 2048", answer, packed(YK_REFUSED_STEPS, 1 + 4));
+    same("the image", (uint64_t)memcmp(image, kept, sizeof image), 0);
+
+    answer = yk_sample_image(image, YK_IMAGE, YK_DEFAULT, facts, 1296, 0x8100, 0x2000, 0x2000, 0x2000, 0x2000,
+                             0x2000, 0x2000);
+    same("sample of 81 degrees", answer, packed(0, 1 + 2 + 4));
+    facts = yk_facts(answer);
+    memcpy(kept, image, sizeof image);
+    same("a short image", yk_read(YK_NCT80, image, 255, 0x01, YK_DEFAULT, facts), packed(YK_REFUSED_IMAGE, 7));
+    same("chip 6", yk_read(6, image, YK_IMAGE, 0x01, YK_ONE_TIME, facts), packed(YK_REFUSED_CHIP, 7));
+    same("01h of chip 2", yk_read(YK_F75373S, image, YK_IMAGE, 0x01, YK_DEFAULT, facts), byte_of(0x01, 7));
+    same("no byte of it", yk_read_byte(yk_read(6, image, YK_IMAGE, 0x01, YK_DEFAULT, facts)), 0);
+    same("the image", (uint64_t)memcmp(image, kept, sizeof image), 0);
+    reads("01h", image, 0x01, &facts, 0x01, 1);
+    reads("01h again", image, 0x01, &facts, 0x00, 1);
+    reads("02h", image, 0x02, &facts, 0x01, 1);
+    reads("02h again", image, 0x02, &facts, 0x00, 1);
+    answer = yk_sample_image(image, YK_IMAGE, YK_DEFAULT, facts, 1248, 0x8000, 0x2000, 0x2000, 0x2000, 0x2000,
+                             0x2000, 0x2000);
+    same("sample of 78 degrees", answer, packed(0, 1 + 2 + 4));
+    facts = yk_facts(answer);
+    reads("01h at the limit", image, 0x01, &facts, 0x00, 1);
+    reads("02h, still hot", image, 0x02, &facts, 0x01, 1);
+    reads("IN0", image, 0x20, &facts, 0x80, 1);
+    reads("IN1", image, 0x21, &facts, 0x20, 1);
+    reads("the temperature", image, 0x27, &facts, 0x4E, 1);
+    reads("its rest", image, 0x06, &facts, 0x00, 1);
+
+    /* The words in their order: each stands in its own register. */
+    answer = yk_sample_image(image, YK_IMAGE, YK_COMPARATOR, 1, -1, 0x4000, 0x2100, 0x2200, 0x2300, 0x2400,
+                             0x2500, 0x2600);
+    same("a sample of less than 0 degrees", answer, 0);
+    same("its bytes", (uint64_t)memcmp(image + 0x20, "\x40\x21\x22\x23\x24\x25\x26\xFF", 8), 0);
+    same("its rest", image[0x06], 0xF0);
+
+    /* All channels disabled: 0 is stored, and the facts stay. */
+    image[0x08] = 0xFF;
+    answer = yk_sample_image(image, YK_IMAGE, YK_ONE_TIME, 2, 2047, 0, 0, 0, 0, 0, 0, 0);
+    same("a disabled sample", answer, packed(0, 2 + 4));
+    same("its bytes", (uint64_t)memcmp(image + 0x20, "\0\0\0\0\0\0\0\0", 8), 0);
+    same("the status", (uint64_t)(image[0x01] | image[0x02] | image[0x06]), 0);
+
+    /* A reset turns both facts off; of another chip the watch stays. */
+    image[0x01] = image[0x02] = 0xFF;
+    same("reset of a short image", yk_reset(YK_NCT80, image, 255, YK_DEFAULT, 3), packed(YK_REFUSED_IMAGE, 7));
+    same("reset", yk_reset(YK_NCT80, image, YK_IMAGE, YK_DEFAULT, 3), 0);
+    same("the status", (uint64_t)(image[0x01] | image[0x02]), 0);
+    same("reset of chip 1", yk_reset(YK_NCT7802Y, image, YK_IMAGE, YK_COMPARATOR, 0xFF), packed(0, 7));
+    same("reset of chip 2", yk_reset(YK_F75373S, image, YK_IMAGE, YK_ONE_TIME, 1), packed(0, 1));
 }
 
 /* Every function that takes a chip, with chip 4, and those of its readings. */
@@ -87,24 +180,24 @@ static void chip_4(void) {
     size_t length = sizeof text_4 - 1;
 
     /* After a reset: banks 3, 6 (which there is not) and 4, and what is seen in every bank. */
-    same("reset of chip 4", yk_reset(4, image, IMAGE_4), 0);
+    same("reset of chip 4", yk_reset(4, image, IMAGE_4, YK_DEFAULT, 0), 0);
     same("its identity", yk_identity(4, image, IMAGE_4), 0);
     same("a short image", yk_identity(4, image, YK_IMAGE), YK_REFUSED_IMAGE);
     same("a long image of chip 1", yk_identity(1, image, IMAGE_4), YK_REFUSED_IMAGE);
     same("chip 6", yk_identity(6, image, IMAGE_4), YK_REFUSED_CHIP);
     same("bank 3", yk_write(4, image, IMAGE_4, 0xFF, 0x83), 0);
-    same("FFh", yk_read(4, image, IMAGE_4, 0xFF), packed(0, 0x03));
-    same("20h in bank 3", yk_read(4, image, IMAGE_4, 0x20), packed(0, 0x5A));
-    same("7Ah", yk_read(4, image, IMAGE_4, 0x7A), packed(0, 0x50));
+    same("FFh", read_at(4, image, IMAGE_4, 0xFF), byte_of(0x03, 0));
+    same("20h in bank 3", read_at(4, image, IMAGE_4, 0x20), byte_of(0x5A, 0));
+    same("7Ah", read_at(4, image, IMAGE_4, 0x7A), byte_of(0x50, 0));
     same("a write", yk_write(4, image, IMAGE_4, 0x20, 0x55), 0);
     same("where it lands", image[0x320], 0x55);
     same("bank 6", yk_write(4, image, IMAGE_4, 0xFF, 0x06), 0);
-    same("20h in bank 6", yk_read(4, image, IMAGE_4, 0x20), 0);
-    same("7Bh", yk_read(4, image, IMAGE_4, 0x7B), packed(0, 0xC5));
+    same("20h in bank 6", read_at(4, image, IMAGE_4, 0x20), 0);
+    same("7Bh", read_at(4, image, IMAGE_4, 0x7B), byte_of(0xC5, 0));
     same("a write to nothing", yk_write(4, image, IMAGE_4, 0x20, 0x11), 0);
     same("bank 4", yk_write(4, image, IMAGE_4, 0xFF, 0x04), 0);
-    same("10h in bank 4", yk_read(4, image, IMAGE_4, 0x10), packed(0, 0x5A));
-    same("20h in bank 4", yk_read(4, image, IMAGE_4, 0x20), packed(0, 0x53));
+    same("10h in bank 4", read_at(4, image, IMAGE_4, 0x10), byte_of(0x5A, 0));
+    same("20h in bank 4", read_at(4, image, IMAGE_4, 0x20), byte_of(0x53, 0));
     image[0x7C] = 0x60;
     same("another device", yk_identity(4, image, IMAGE_4), YK_REFUSED_IDENTITY);
     image[0x7C] = 0x5F;
@@ -160,24 +253,24 @@ static void chip_5(void) {
     size_t length = sizeof text_5 - 1, k;
 
     /* After a reset: banks 2, 6 (which there is not) and 0, and what is seen in every bank. */
-    same("reset of chip 5", yk_reset(chip, image, size), 0);
+    same("reset of chip 5", yk_reset(chip, image, size, YK_DEFAULT, 0), 0);
     same("its identity", yk_identity(chip, image, size), 0);
     same("a short image", yk_identity(chip, image, YK_IMAGE), YK_REFUSED_IMAGE);
     same("a long image of chip 1", yk_identity(1, image, size), YK_REFUSED_IMAGE);
     same("chip 6", yk_identity(6, image, size), YK_REFUSED_CHIP);
-    same("00h", yk_read(chip, image, size, 0x00), packed(0, 0x80));
+    same("00h", read_at(chip, image, size, 0x00), byte_of(0x80, 0));
     same("bank 2", yk_write(chip, image, size, 0x00, 0x7A), 0);
-    same("00h", yk_read(chip, image, size, 0x00), packed(0, 0x02));
-    same("30h in bank 2", yk_read(chip, image, size, 0x30), packed(0, 0x1E));
-    same("0Dh", yk_read(chip, image, size, 0x0D), packed(0, 0x5C));
+    same("00h", read_at(chip, image, size, 0x00), byte_of(0x02, 0));
+    same("30h in bank 2", read_at(chip, image, size, 0x30), byte_of(0x1E, 0));
+    same("0Dh", read_at(chip, image, size, 0x0D), byte_of(0x5C, 0));
     same("a write", yk_write(chip, image, size, 0x30, 0x9F), 0);
     same("where it lands", image[0x230], 0x1F);
     same("bank 6", yk_write(chip, image, size, 0x00, 0x06), 0);
-    same("30h in bank 6", yk_read(chip, image, size, 0x30), 0);
-    same("0Eh", yk_read(chip, image, size, 0x0E), packed(0, 0x7B));
+    same("30h in bank 6", read_at(chip, image, size, 0x30), 0);
+    same("0Eh", read_at(chip, image, size, 0x0E), byte_of(0x7B, 0));
     same("a write to nothing", yk_write(chip, image, size, 0x30, 0x11), 0);
     same("bank 0", yk_write(chip, image, size, 0x00, 0x80), 0);
-    same("C5h in bank 0", yk_read(chip, image, size, 0xC5), packed(0, 0x50));
+    same("C5h in bank 0", read_at(chip, image, size, 0xC5), byte_of(0x50, 0));
     image[0x0F] = 0x13;
     same("another version", yk_identity(chip, image, size), YK_REFUSED_IDENTITY);
     image[0x0F] = 0x11;
@@ -272,10 +365,10 @@ int main(void) {
     same("write", yk_write(2, image, YK_IMAGE, 0x34, 0x01), 0);
     same("the byte at 34h", image[0x34], 0xFE);
     same("write", yk_write(2, image, YK_IMAGE, 0x91, 0xA5), 0);
-    same("read", yk_read(2, image, YK_IMAGE, 0x91), packed(0, 0xF5));
-    same("read of a short image", yk_read(2, image, 255, 0x91), YK_REFUSED_IMAGE);
+    same("read", read_at(2, image, YK_IMAGE, 0x91), byte_of(0xF5, 0));
+    same("read of a short image", read_at(2, image, 255, 0x91), YK_REFUSED_IMAGE);
     /* "A3h to A8h power-on 37h, 3Ch, 8Ch, AAh, C8h, E6h." */
-    same("reset", yk_reset(1, image, YK_IMAGE), 0);
+    same("reset", yk_reset(1, image, YK_IMAGE, YK_DEFAULT, 0), 0);
     same("the bytes at A3h", (uint64_t)memcmp(image + 0xA3, "\x37\x3C\x8C\xAA\xC8\xE6", 6), 0);
     same("identity of chip 2", yk_identity(2, image, YK_IMAGE), YK_REFUSED_IDENTITY);
     image[0xFD] = 0x50;
@@ -340,6 +433,7 @@ int main(void) {
     same("its bytes", (uint64_t)memcmp(out, text, length), 0);
     same("short text", yk_translate(record, sizeof record, out, length - 1), YK_REFUSED_OUTPUT);
     initialization();
+    status();
     chip_4();
     chip_5();
     return failed;

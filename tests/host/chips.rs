@@ -1,4 +1,5 @@
-//! What the papers say of each chip, as data: card, banks, initialization, identity and fan tables.
+//! What the papers say of each chip, as data: card, banks, initialization, channels and status
+//! registers, identity and fan tables.
 
 use crate::cards::{Row, F75373S, NCT7802Y, NCT7904D, NCT80, W83793G};
 use Held::{Is, OneOf};
@@ -8,6 +9,9 @@ pub struct Chip {
     pub card: &'static [Row],
     pub banks: Option<Banks>,
     pub initialization: Option<Initialization>,
+    /// What a chip that takes samples has. Without it a read changes nothing and no call changes a
+    /// watch.
+    pub monitor: Option<&'static Monitor>,
     /// Where, which bits, and what they hold. "Confirmed means all of them"; without a list it is
     /// never confirmed.
     pub identity: Option<&'static [(usize, u8, Held)]>,
@@ -42,6 +46,46 @@ pub struct Initialization {
     pub bit: u8,
     /// The bits that "read 0 after the write", whatever was written.
     pub zero: u8,
+}
+
+/// "Status bits live in the chip": where in the image a sample is stored, its limits, and the bits
+/// that it sets.
+pub struct Monitor {
+    /// "Reading 01h or 02h returns the byte and then clears it, and counts as the acknowledge."
+    pub status: [usize; 2],
+    /// "Channels disabled at 08h": each has a bit there.
+    pub channels: usize,
+    /// IN0 to IN6.
+    pub voltages: [Voltage; 7],
+    pub temperature: Temperature,
+}
+
+/// A bit, and where in the image its register stands.
+pub type Bit = (usize, u8);
+
+pub struct Voltage {
+    /// Its bit of the register of channels.
+    pub channel: u8,
+    /// "High bytes only."
+    pub reading: usize,
+    pub high: usize,
+    pub low: usize,
+    /// "The NCT80 sets this bit to 1 if the high or low limit has been exceeded."
+    pub status: Bit,
+}
+
+pub struct Temperature {
+    pub channel: u8,
+    /// "27h and bits 7 to 4 of 06h"; the other bits of the second stay.
+    pub reading: usize,
+    pub rest: usize,
+    /// The limits of the watch, and the bit of its output.
+    pub high: usize,
+    pub hysteresis: usize,
+    pub status: Bit,
+    /// The OS limit and its bit.
+    pub os_high: usize,
+    pub os_status: Bit,
 }
 
 /// What the bits of an identity register hold.
@@ -114,6 +158,7 @@ static CHIPS: [Chip; 5] = [
         banks: None,
         // FCh is no such register: the request is of "NCT80 register 00h" alone.
         initialization: None,
+        monitor: None,
         // "FDh holds 50h, FEh holds C3h, the upper four bits of FFh are 2, bits 4 to 0 of 05h are
         // zero, bits 5 to 0 of 08h are zero."
         identity: Some(&[
@@ -138,6 +183,7 @@ static CHIPS: [Chip; 5] = [
         banks: None,
         // Nor is 00h here.
         initialization: None,
+        monitor: None,
         // "5Ah, 5Bh, 5Dh, 5Eh hold 02h, 04h, 19h, 34h."
         identity: Some(&[
             (0x5A, 0xFF, Is(0x02)), (0x5B, 0xFF, Is(0x04)), (0x5D, 0xFF, Is(0x19)), (0x5E, 0xFF, Is(0x34)),
@@ -162,6 +208,7 @@ static CHIPS: [Chip; 5] = [
         // "since we model no time, let it read 0 after the write". Bit 4, which on a condition is
         // "cleared once the pulse is inactive", is stored.
         initialization: Some(Initialization { at: 0x00, bit: 0x80, zero: 0x20 }),
+        monitor: Some(&NCT80_MONITOR),
         // "For chip 3 always: it has no identity rule here."
         identity: None,
         form: &PLAIN,
@@ -179,6 +226,7 @@ static CHIPS: [Chip; 5] = [
         // it is seen in bank 4 too, or no script could leave that bank.
         banks: Some(Banks { select: 0xFF, bits: 0x07, everywhere: &[0x7A, 0x7B, 0x7C, 0xFF] }),
         initialization: None,
+        monitor: None,
         // "Identity from its vendor, chip and device registers": 7.1.3 to 7.1.5 and 7.1.12 to
         // 7.1.14, "Default Value: 50", "C5", "5x".
         identity: Some(&[
@@ -211,6 +259,7 @@ static CHIPS: [Chip; 5] = [
         // in all three register banks are reserved as ID, Bank Select registers."
         banks: Some(Banks { select: 0x00, bits: 0x07, everywhere: &[0x00, 0x0D, 0x0E, 0x0F] }),
         initialization: None,
+        monitor: None,
         // "The vendor byte in the image is the high one, whatever bank select holds": of the two in
         // 8.1.2.2, 5C and A3. 8.1.2.3: "Chip ID of W83793G is 7B". 8.1.2.4: "Device ID of W83793G B
         // Version is 11, C Version is 12".
@@ -235,3 +284,30 @@ static CHIPS: [Chip; 5] = [
         fastest: 0x3F,
     },
 ];
+
+/// Source document 004: STATUSREGISTER1 and 2 at "Offset 0x01" and "0x02", CHANNEL_SELECT_REGISTER
+/// at "0x08", IN0_READING to IN6_READING from "0x20" on, TEMP_READING at "0x27"; the limits from
+/// "0x2A" on are IN0_HIGH_LIMIT, IN0_LOW_LIMIT, IN1_HIGH_LIMIT and so on, in turn. Of 01h, bit 7
+/// is INT_IN, a pin; of 02h, bit 0 is "Temperature" and bit 5 "OS_bit", the others are fans and
+/// pins: no sample sets them. Of 08h, bit 7 is "Temp".
+#[rustfmt::skip]
+static NCT80_MONITOR: Monitor = Monitor {
+    status: [0x01, 0x02],
+    channels: 0x08,
+    voltages: [
+        Voltage { channel: 0x01, reading: 0x20, high: 0x2A, low: 0x2B, status: (0x01, 0x01) },
+        Voltage { channel: 0x02, reading: 0x21, high: 0x2C, low: 0x2D, status: (0x01, 0x02) },
+        Voltage { channel: 0x04, reading: 0x22, high: 0x2E, low: 0x2F, status: (0x01, 0x04) },
+        Voltage { channel: 0x08, reading: 0x23, high: 0x30, low: 0x31, status: (0x01, 0x08) },
+        Voltage { channel: 0x10, reading: 0x24, high: 0x32, low: 0x33, status: (0x01, 0x10) },
+        Voltage { channel: 0x20, reading: 0x25, high: 0x34, low: 0x35, status: (0x01, 0x20) },
+        Voltage { channel: 0x40, reading: 0x26, high: 0x36, low: 0x37, status: (0x01, 0x40) },
+    ],
+    // HOT_TEMP_HIGH_LIMIT, HOT_TEMP_HYSTERESIS_LIMIT and OS_TEMP_HIGH_LIMIT. That of the OS
+    // hysteresis, 3Bh, sets no bit.
+    temperature: Temperature {
+        channel: 0x80, reading: 0x27, rest: 0x06,
+        high: 0x38, hysteresis: 0x39, status: (0x02, 0x01),
+        os_high: 0x3A, os_status: (0x02, 0x20),
+    },
+};

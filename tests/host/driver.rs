@@ -6,11 +6,11 @@ use crate::subject::Subject;
 use std::fmt::{Debug, Formatter, Result};
 use std::panic::{catch_unwind, AssertUnwindSafe};
 
-pub const NAMES: [&str; 22] = [
+pub const NAMES: [&str; 23] = [
     "write", "read", "reset", "identity", "steps_of", "bytes_of", "microvolts", "sample",
     "acknowledge", "output", "judge", "asked_of_plan", "asked_of_image", "read_record",
     "write_record", "script", "play", "translate", "run", "right_steps", "right_bytes",
-    "input_microvolts",
+    "input_microvolts", "sample_image",
 ];
 
 pub struct Driver<'a, S: Subject> {
@@ -79,17 +79,17 @@ impl<'a, S: Subject> Driver<'a, S> {
         answer
     }
 
-    /// A call with a lent buffer. The model works on the buffer itself.
-    fn lent(
-        &mut self, which: usize, buffer: &mut [u8], inputs: &dyn Debug,
-        model: impl FnOnce(&mut [u8]) -> (u32, usize),
-        ask: impl FnOnce(&S, &mut [u8]) -> (u32, usize),
-    ) -> (u32, usize) {
+    /// A call with a lent buffer. The model works on the buffer itself; `zero` is as above.
+    fn lent<A: PartialEq + Debug>(
+        &mut self, which: usize, buffer: &mut [u8], inputs: &dyn Debug, zero: A,
+        model: impl FnOnce(&mut [u8]) -> (u32, A),
+        ask: impl FnOnce(&S, &mut [u8]) -> (u32, A),
+    ) -> (u32, A) {
         let before = buffer.to_vec();
         let mut theirs = buffer.to_vec();
         let want = model(buffer);
         let all = (inputs, Lent(&before));
-        let answer = self.plain(which, &all, 0, want, |subject| ask(subject, &mut theirs));
+        let answer = self.plain(which, &all, zero, want, |subject| ask(subject, &mut theirs));
         if buffer != theirs {
             let k = buffer.iter().zip(&theirs).take_while(|(want, got)| want == got).count();
             let all = (inputs, Lent(&before), "the lent buffer afterwards, at", k);
@@ -103,23 +103,59 @@ impl<'a, S: Subject> Driver<'a, S> {
 
     pub fn write(&mut self, chip: u8, image: &mut [u8], address: u8, byte: u8) -> u32 {
         self.lent(
-            0, image, &(chip, address, byte),
+            0, image, &(chip, address, byte), 0,
             |lent| (model::write(chip, lent, address, byte), 0),
             |subject, lent| (subject.write(chip, lent, address, byte), 0),
         ).0
     }
 
-    pub fn read(&mut self, chip: u8, image: &[u8], address: u8) -> (u32, u8) {
-        let want = model::read(chip, image, address);
-        self.plain(1, &(chip, image, address), 0, want, |s| s.read(chip, image, address))
+    /// "A refused read clears nothing", and its watch "comes back unchanged".
+    pub fn read(&mut self, chip: u8, image: &mut [u8], watch: Watch, address: u8) -> (u32, u8, Watch) {
+        let zero = (0, watch, model::output(watch));
+        let (refusal, (byte, after, _)) = self.lent(
+            1, image, &(chip, watch, address), zero,
+            |lent| {
+                let (refusal, byte, after) = model::read(chip, lent, watch, address);
+                (refusal, (byte, after, model::output(after)))
+            },
+            |subject, lent| {
+                let (refusal, byte, after, output) = subject.read(chip, lent, watch, address);
+                (refusal, (byte, after, output))
+            },
+        );
+        (refusal, byte, after)
     }
 
-    pub fn reset(&mut self, chip: u8, image: &mut [u8]) -> u32 {
-        self.lent(
-            2, image, &chip,
-            |lent| (model::reset(chip, lent), 0),
-            |subject, lent| (subject.reset(chip, lent), 0),
-        ).0
+    pub fn reset(&mut self, chip: u8, image: &mut [u8], watch: Watch) -> (u32, Watch) {
+        let zero = (watch, model::output(watch));
+        let (refusal, (after, _)) = self.lent(
+            2, image, &(chip, watch), zero,
+            |lent| {
+                let (refusal, after) = model::reset(chip, lent, watch);
+                (refusal, (after, model::output(after)))
+            },
+            |subject, lent| {
+                let (refusal, after, output) = subject.reset(chip, lent, watch);
+                (refusal, (after, output))
+            },
+        );
+        (refusal, after)
+    }
+
+    pub fn sample_image(&mut self, image: &mut [u8], watch: Watch, steps: i16, words: [u16; 7]) -> (u32, Watch) {
+        let zero = (watch, model::output(watch));
+        let (refusal, (after, _)) = self.lent(
+            22, image, &(watch, steps, words), zero,
+            |lent| {
+                let (refusal, after) = model::sample_image(lent, watch, steps, words);
+                (refusal, (after, model::output(after)))
+            },
+            |subject, lent| {
+                let (refusal, after, output) = subject.sample_image(lent, watch, steps, words);
+                (refusal, (after, output))
+            },
+        );
+        (refusal, after)
     }
 
     pub fn identity(&mut self, chip: u8, image: &[u8]) -> u32 {
@@ -245,7 +281,7 @@ impl<'a, S: Subject> Driver<'a, S> {
 
     pub fn write_record(&mut self, plan: Plan, out: &mut [u8]) -> (u32, usize) {
         self.lent(
-            14, out, &plan,
+            14, out, &plan, 0,
             |lent| model::write_record(plan, lent),
             |subject, lent| subject.write_record(plan, lent),
         )
@@ -253,7 +289,7 @@ impl<'a, S: Subject> Driver<'a, S> {
 
     pub fn script(&mut self, plan: Plan, out: &mut [u8]) -> (u32, usize) {
         self.lent(
-            15, out, &plan,
+            15, out, &plan, 0,
             |lent| model::script(plan, lent),
             |subject, lent| subject.script(plan, lent),
         )
@@ -261,7 +297,7 @@ impl<'a, S: Subject> Driver<'a, S> {
 
     pub fn play(&mut self, plan: Plan, image: &mut [u8], count: usize) -> (u32, usize) {
         self.lent(
-            16, image, &(plan, count),
+            16, image, &(plan, count), 0,
             |lent| model::play(plan, lent, count),
             |subject, lent| subject.play(plan, lent, count),
         )
@@ -269,7 +305,7 @@ impl<'a, S: Subject> Driver<'a, S> {
 
     pub fn translate(&mut self, input: &[u8], out: &mut [u8]) -> (u32, usize) {
         self.lent(
-            17, out, &input,
+            17, out, &input, 0,
             |lent| model::translate(input, lent),
             |subject, lent| subject.translate(input, lent),
         )

@@ -1,10 +1,10 @@
 //! Every figure of the paper, asked of model and subject at once: the fixed points of the
 //! cards, "Figures to check against", the example text and "Mistakes we made or nearly made"; and
-//! those worked out for chips 4 and 5 and for the initialization bit.
+//! those worked out for chips 4 and 5, for the initialization bit and for chip 3's status bits.
 
 use crate::chips::chip_of;
 use crate::driver::{hold, Driver};
-use crate::model::{self, Plan, Watch};
+use crate::model::{self, Plan, Watch, NEW};
 use crate::subject::Subject;
 use crate::rounds::{never_slower, put};
 use crate::tests::power_on;
@@ -46,6 +46,8 @@ pub fn run<S: Subject>(d: &mut Driver<S>) {
     cards(d);
     banks(d);
     initialization(d);
+    states(d);
+    one_time_and_comparator(d);
     identities(d);
     one_of(d);
     readings(d);
@@ -82,7 +84,7 @@ fn row<S: Subject>(d: &mut Driver<S>, chip: u8, at: usize) -> (u8, u8, u8) {
         clears = 0;
     }
     let mut image = vec![0x5A; length];
-    d.reset(chip, &mut image);
+    d.reset(chip, &mut image, NEW);
     (mask, clears, image[at])
 }
 
@@ -181,7 +183,8 @@ fn bus<S: Subject>(d: &mut Driver<S>, chip: u8, steps: &[Step]) -> (Vec<u8>, Vec
     for &((address, byte), reads) in steps {
         d.write(chip, &mut image, address, byte);
         for &(at, want) in reads {
-            hold(d.read(chip, &image, at) == (0, want), "banks", &(chip, (address, byte), (at, want)));
+            let read = d.read(chip, &mut image, NEW, at);
+            hold(read == (0, want, NEW), "banks", &(chip, (address, byte), (at, want)));
         }
     }
     let changed = (0..image.len()).filter(|at| image[*at] != reset[*at]).collect();
@@ -203,10 +206,10 @@ fn banks<S: Subject>(d: &mut Driver<S>) {
     hold(changed == [0xFF, 0x320], "the bytes that were written", &changed);
     // "The bank selected is what the bank bits [...] say, whatever its other bits hold"; these keep.
     image[0xFF] = 0x2C;
-    hold(d.read(4, &image, 0x15) == (0, 0x5A), "bank 4 is selected", &0x2C);
+    hold(d.read(4, &mut image, NEW, 0x15) == (0, 0x5A, NEW), "bank 4 is selected", &0x2C);
     d.write(4, &mut image, 0xFF, 0x03);
     hold(image[0xFF] == 0x2B, "bits 7 to 3 are kept", &image[0xFF]);
-    hold(d.read(4, &image, 0x20) == (0, 0x55), "bank 3 is selected", &0x2B);
+    hold(d.read(4, &mut image, NEW, 0x20) == (0, 0x55, NEW), "bank 3 is selected", &0x2B);
     // Chip 5: bank 2, and of the bank select register bits 6 to 3 can't be written. The vendor's
     // byte is the high one, with bit 7 and without it.
     let steps: [Step; 8] = [
@@ -224,23 +227,29 @@ fn banks<S: Subject>(d: &mut Driver<S>) {
     let (mut image, changed) = bus(d, 5, &steps);
     hold(changed == [0x00, 0x230, 0x238], "the bytes that were written", &changed);
     image[0x00] = 0x6A;
-    hold(d.read(5, &image, 0x30) == (0, 0x1F), "bank 2 is selected", &0x6A);
+    hold(d.read(5, &mut image, NEW, 0x30) == (0, 0x1F, NEW), "bank 2 is selected", &0x6A);
     d.write(5, &mut image, 0x00, 0x90);
     hold(image[0x00] == 0xE8, "bits 6 to 3 are kept", &image[0x00]);
     for select in 0..=255 {
         image[0x00] = select;
-        hold(d.read(5, &image, 0x0D) == (0, 0x5C), "the vendor's high byte", &select);
-        hold(d.read(5, &image, 0x00) == (0, select), "the bank select register", &select);
+        hold(d.read(5, &mut image, NEW, 0x0D) == (0, 0x5C, NEW), "the vendor's high byte", &select);
+        hold(d.read(5, &mut image, NEW, 0x00) == (0, select, NEW), "the bank select register", &select);
     }
     // 3 comes before 8.
     for chip in [0, 6, 255] {
-        hold(d.read(chip, &image, 0) == (3, 0) && d.read(chip, &[], 0) == (3, 0), "3 before 8", &chip);
+        let refused = (3, 0, NEW);
+        hold(d.read(chip, &mut image, NEW, 0) == refused, "3", &chip);
+        hold(d.read(chip, &mut [], NEW, 0) == refused, "3 before 8", &chip);
     }
     for chip in 1..=5 {
         for length in [0, 255, 256, 257, 767, 768, 769, 1279, 1280, 1281] {
             let mut image = vec![0; length];
             let want = if length == model::image_length(chip) { 0 } else { 8 };
-            let refusals = [d.write(chip, &mut image, 9, 9), d.read(chip, &image, 9).0, d.reset(chip, &mut image)];
+            let refusals = [
+                d.write(chip, &mut image, 9, 9),
+                d.read(chip, &mut image, NEW, 9).0,
+                d.reset(chip, &mut image, NEW).0,
+            ];
             hold(refusals == [want; 3], "the length of an image", &(chip, length));
         }
     }
@@ -310,6 +319,92 @@ fn initialization<S: Subject>(d: &mut Driver<S>) {
             let kept = image.iter().all(|byte| *byte == 0x5A);
             hold(refusal == want && kept, "a refused write", &(chip, length, written));
         }
+    }
+}
+
+/// The state of the worked example: "00h 01, 06h 00, 08h 00, 38h 50, 39h 4B, 3Ah 7F, 3Bh 80, 2Ah 80,
+/// 2Bh 40, 2Dh 20, all other low limits 00 and high limits FF".
+fn example_state() -> Vec<u8> {
+    image_with(0x00, &[
+        (0x00, &[0x01]),
+        (0x2A, &[0x80, 0x40, 0xFF, 0x20, 0xFF, 0x00, 0xFF, 0x00, 0xFF, 0x00, 0xFF, 0x00, 0xFF, 0x00]),
+        (0x38, &[0x50, 0x4B, 0x7F, 0x80]),
+    ])
+}
+
+/// "8100 2000 2000 .." and the like: the first word, and six of 2000h.
+fn words(first: u16) -> [u16; 7] {
+    [first, 0x2000, 0x2000, 0x2000, 0x2000, 0x2000, 0x2000]
+}
+
+/// The worked example of the status bits: "default behaviour, both facts off: sample 1296 with
+/// words 8100 2000 2000 .., read 01: 01, again: 00, read 02: 01, again: 00; sample 1248 with words
+/// 8000 2000 ..: read 01: 00, read 02: 01 (default: still hot). Then hot on, pending off, 20h 80,
+/// 21h 20, 27h 4E, 06h 00."
+fn states<S: Subject>(d: &mut Driver<S>) {
+    let mut image = example_state();
+    let before = image.clone();
+    let watch = |hot: bool, pending: bool| Watch { behaviour: 0, hot, pending };
+    let (refusal, mut now) = d.sample_image(&mut image, NEW, 1296, words(0x8100));
+    hold((refusal, now) == (0, watch(true, true)), "81 degrees", &now);
+    let mut want = before.clone();
+    (want[0x01], want[0x02], want[0x27]) = (0x01, 0x01, 0x51);
+    want[0x20..0x27].copy_from_slice(&[0x81, 0x20, 0x20, 0x20, 0x20, 0x20, 0x20]);
+    hold(image == want, "the image after the first sample", &image);
+    for (address, byte) in [(0x01, 0x01), (0x01, 0x00), (0x02, 0x01), (0x02, 0x00)] {
+        let read = d.read(3, &mut image, now, address);
+        hold(read == (0, byte, watch(true, false)), "what is read", &(address, read));
+        want[usize::from(address)] = 0;
+        hold(image == want, "one register is cleared", &(address, &image));
+        now = read.2;
+    }
+    let (refusal, now) = d.sample_image(&mut image, now, 1248, words(0x8000));
+    hold((refusal, now) == (0, watch(true, true)), "78 degrees: still hot", &now);
+    let mut now = now;
+    for (address, byte) in [(0x01, 0x00), (0x02, 0x01)] {
+        let read = d.read(3, &mut image, now, address);
+        hold(read == (0, byte, watch(true, false)), "what is read then", &(address, read));
+        now = read.2;
+    }
+    (want[0x20], want[0x27]) = (0x80, 0x4E);
+    hold(image == want && now == watch(true, false), "the end", &(&image, now));
+    // Reads of what was stored change nothing.
+    for (address, byte) in [(0x20, 0x80), (0x21, 0x20), (0x27, 0x4E), (0x06, 0x00), (0x00, 0x01)] {
+        hold(d.read(3, &mut image, now, address) == (0, byte, now), "a reading", &address);
+    }
+    hold(image == want, "every other read changes nothing", &image);
+    // "Reset turns both facts off and keeps the behaviour." Of another chip the watch stays.
+    for behaviour in 0..3 {
+        let watch = Watch { behaviour, hot: true, pending: true };
+        let reset = d.reset(3, &mut image, watch);
+        hold(reset == (0, Watch { hot: false, pending: false, ..watch }), "a reset", &reset.1);
+        for chip in [1, 2, 4, 5] {
+            let mut other = vec![0xFF; model::image_length(chip)];
+            hold(d.read(chip, &mut other, watch, 0x01).2 == watch, "another chip's 01h", &chip);
+            hold(d.reset(chip, &mut other, watch) == (0, watch), "another chip's reset", &chip);
+        }
+    }
+}
+
+/// The same in the other behaviours: pending once, and never; 02h bit 0 follows the output.
+fn one_time_and_comparator<S: Subject>(d: &mut Driver<S>) {
+    // Behaviour, pending after the first sample, 02h after a read and the second sample.
+    for (behaviour, pending, again) in [(0, true, 0x01), (1, true, 0x00), (2, false, 0x01), (7, false, 0x01)] {
+        let mut image = example_state();
+        let watch = Watch { behaviour, ..NEW };
+        let (_, hot) = d.sample_image(&mut image, watch, 1296, words(0x8100));
+        hold(hot == Watch { hot: true, pending, ..watch }, "81 degrees", &hot);
+        let (_, byte, read) = d.read(3, &mut image, hot, 0x02);
+        hold((byte, read) == (0x01, Watch { hot: true, ..watch }), "02h", &read);
+        d.sample_image(&mut image, read, 1248, words(0x8000));
+        hold((image[0x01], image[0x02]) == (0x01, again), "02h again", &(behaviour, image[0x02]));
+    }
+    // 3Ah is in whole degrees and signed, and its bit needs no watch: -10 degrees are -160 steps.
+    for (steps, bit) in [(-161, 0x00), (-160, 0x00), (-159, 0x20), (0, 0x20)] {
+        let mut image = example_state();
+        image[0x3A] = 0xF6;
+        d.sample_image(&mut image, NEW, steps, words(0x8000));
+        hold(image[0x02] == bit, "the OS limit", &(steps, image[0x02]));
     }
 }
 

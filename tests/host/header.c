@@ -19,7 +19,7 @@ static uint64_t packed(uint64_t refusal, uint64_t value) {
 
 int main(void) {
     long steps;
-    unsigned facts;
+    unsigned facts, byte;
     same("refusal", yk_refusal(packed(12, 0xFFFF)), YK_REFUSED_STEPS);
     same("accepted", yk_refusal(packed(0, 2557500)), YK_ACCEPTED);
     same("value", (long)yk_value(packed(9, 2557500)), 2557500);
@@ -48,6 +48,15 @@ int main(void) {
         same("pending", yk_facts_pending(packed(0, facts)), facts / 2 % 2);
         same("output", yk_facts_output(packed(0, facts)), facts / 4);
         same("facts", yk_facts(packed(12, facts)), facts % 4);
+        /* The answer of a read: its byte stands above the facts. */
+        for (byte = 0; byte < 256; byte++) {
+            same("byte", yk_read_byte(packed(0, facts + 256 * byte)), byte);
+            same("hot", yk_facts_hot(packed(0, facts + 256 * byte)), facts % 2);
+            same("pending", yk_facts_pending(packed(0, facts + 256 * byte)), facts / 2 % 2);
+            same("output", yk_facts_output(packed(0, facts + 256 * byte)), facts / 4);
+            same("facts", yk_facts(packed(0, facts + 256 * byte)), facts % 4);
+        }
+        same("no byte", yk_read_byte(packed(8, facts)), 0);
     }
     return failed;
 }

@@ -9,8 +9,10 @@ use crate::subject::Subject;
 #[rustfmt::skip]
 extern "C" {
     fn yk_write(chip: u8, image: *mut u8, length: usize, address: u8, byte: u8) -> u64;
-    fn yk_read(chip: u8, image: *const u8, length: usize, address: u8) -> u64;
-    fn yk_reset(chip: u8, image: *mut u8, length: usize) -> u64;
+    fn yk_read(chip: u8, image: *mut u8, length: usize, address: u8, behaviour: u8, facts: u8) -> u64;
+    fn yk_reset(chip: u8, image: *mut u8, length: usize, behaviour: u8, facts: u8) -> u64;
+    fn yk_sample_image(image: *mut u8, length: usize, behaviour: u8, facts: u8, steps: i16,
+                       in0: u16, in1: u16, in2: u16, in3: u16, in4: u16, in5: u16, in6: u16) -> u64;
     fn yk_identity(chip: u8, image: *const u8, length: usize) -> u64;
     fn yk_steps(width: u8, high: u8, low: u8) -> u64;
     fn yk_bytes(width: u8, steps: i16) -> u64;
@@ -78,6 +80,26 @@ pub fn raw_acknowledge(behaviour: u8, facts: u8) -> u64 {
     unsafe { yk_acknowledge(behaviour, facts) }
 }
 
+/// A read's answer as it comes, for any behaviour and any bits in the facts.
+pub fn raw_read(chip: u8, image: &mut [u8], address: u8, behaviour: u8, facts: u8) -> u64 {
+    // SAFETY: pointer and length come from one slice, which is lent for the call.
+    unsafe { yk_read(chip, image.as_mut_ptr(), image.len(), address, behaviour, facts) }
+}
+
+/// A reset's answer as it comes.
+pub fn raw_reset(chip: u8, image: &mut [u8], behaviour: u8, facts: u8) -> u64 {
+    // SAFETY: as of a read.
+    unsafe { yk_reset(chip, image.as_mut_ptr(), image.len(), behaviour, facts) }
+}
+
+/// The answer of a sample of chip 3 as it comes.
+pub fn raw_sample_image(image: &mut [u8], behaviour: u8, facts: u8, steps: i16, words: [u16; 7]) -> u64 {
+    let (to, length) = (image.as_mut_ptr(), image.len());
+    let [in0, in1, in2, in3, in4, in5, in6] = words;
+    // SAFETY: as of a read.
+    unsafe { yk_sample_image(to, length, behaviour, facts, steps, in0, in1, in2, in3, in4, in5, in6) }
+}
+
 pub struct Library;
 
 // SAFETY, of every call below: a pointer and its length come from one slice, which is lent for
@@ -87,12 +109,21 @@ impl Subject for Library {
         alone(unsafe { yk_write(chip, image.as_mut_ptr(), image.len(), address, byte) })
     }
 
-    fn read(&self, chip: u8, image: &[u8], address: u8) -> (u32, u8) {
-        parts(unsafe { yk_read(chip, image.as_ptr(), image.len(), address) })
+    /// The value is that of a watch + 256 * the byte.
+    fn read(&self, chip: u8, image: &mut [u8], watch: Watch, address: u8) -> (u32, u8, Watch, bool) {
+        let answer = raw_read(chip, image, address, watch.behaviour, facts(watch));
+        let (_, value): (u32, u16) = parts(answer);
+        let [byte, _] = value.to_be_bytes();
+        let (refusal, watch, output) = watch_of(watch.behaviour, answer - 65536 * u64::from(byte));
+        (refusal, byte, watch, output)
     }
 
-    fn reset(&self, chip: u8, image: &mut [u8]) -> u32 {
-        alone(unsafe { yk_reset(chip, image.as_mut_ptr(), image.len()) })
+    fn reset(&self, chip: u8, image: &mut [u8], watch: Watch) -> (u32, Watch, bool) {
+        watch_of(watch.behaviour, raw_reset(chip, image, watch.behaviour, facts(watch)))
+    }
+
+    fn sample_image(&self, image: &mut [u8], watch: Watch, steps: i16, words: [u16; 7]) -> (u32, Watch, bool) {
+        watch_of(watch.behaviour, raw_sample_image(image, watch.behaviour, facts(watch), steps, words))
     }
 
     fn identity(&self, chip: u8, image: &[u8]) -> u32 {

@@ -15,6 +15,7 @@ mod random;
 mod readings;
 mod restarts;
 mod rounds;
+mod states;
 mod subject;
 mod tests;
 mod text;

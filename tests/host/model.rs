@@ -1,15 +1,15 @@
-//! A plain model of the base, of chips 4 and 5 and of chip 3's initialization bit, written from the
-//! rules paper, the requests for these and the data sheets alone. Every function answers every
-//! input. 0 means accepted; any other number is the paper's refusal number. "A refusal returns its
-//! number and zero in every other part of the answer (a watch comes back unchanged), and each lent
-//! buffer holds what it held."
+//! A plain model of the base, of chips 4 and 5 and of chip 3's initialization bit, samples and
+//! status registers, written from the rules paper, the requests for these and the data sheets
+//! alone. Every function answers every input. 0 means accepted; any other number is the paper's
+//! refusal number. "A refusal returns its number and zero in every other part of the answer (a
+//! watch comes back unchanged), and each lent buffer holds what it held."
 
 use crate::chips::{chip_of, Chip, Curve, COUNTED, PLAIN};
 use crate::images::image_of;
-pub use crate::images::{identity, read, reset, write};
+pub use crate::images::{identity, read, reset, sample_image, write};
 pub use crate::readings::{
     acknowledge, bytes_of, input_microvolts, microvolts, output, right_bytes, right_steps, run,
-    sample, steps_of, Watch,
+    sample, steps_of, Watch, NEW,
 };
 pub use crate::text::{translate, INPUT};
 

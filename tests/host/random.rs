@@ -1,7 +1,7 @@
 //! A small seeded generator (xorshift) and the drafts it makes: boundary values come often.
 
 use crate::chips::{chip_of, Chip, Curve, PLAIN};
-use crate::model::{self, Plan};
+use crate::model::{self, Plan, Watch, NEW};
 
 const BYTES: [u8; 6] = [0, 1, 127, 128, 254, 255];
 const LENGTHS: [usize; 27] = [
@@ -142,6 +142,50 @@ impl Random {
         (0..self.below(49)).map(|_| self.sample(limits)).collect()
     }
 
+    /// Any watch; the numbers of its behaviour are mostly 0, 1 and 2.
+    pub fn watch(&mut self) -> Watch {
+        let behaviour = if self.once_in(8) { self.byte() } else { self.below(3) as u8 };
+        Watch { behaviour, hot: self.once_in(2), pending: self.once_in(2) }
+    }
+
+    /// An address: often a status register of chip 3, a register that its samples look at, or one
+    /// that they fill; else any.
+    pub fn address(&mut self) -> u8 {
+        match self.below(6) {
+            0 | 1 => 1 + self.below(2) as u8,
+            2 => self.below(10) as u8,
+            3 => 0x20 + self.below(0x20) as u8,
+            _ => self.byte(),
+        }
+    }
+
+    /// A voltage word with this code or one of its neighbours, bits 5 to 0 any.
+    pub fn near_code(&mut self, code: u16) -> u16 {
+        let code = (code + self.below(3) as u16).saturating_sub(1).min(1023);
+        64 * code + self.below(64) as u16
+    }
+
+    /// The seven words of a sample: mostly at a limit that stands in the image or beside it, where
+    /// the limits alternate from 2Ah on; at times any.
+    pub fn words(&mut self, image: &[u8]) -> [u16; 7] {
+        [0, 1, 2, 3, 4, 5, 6].map(|n| {
+            let at = 0x2A + 2 * n + self.below(2);
+            match image.get(at) {
+                Some(limit) if !self.once_in(4) => self.near_code(4 * u16::from(*limit)),
+                _ => self.next() as u16,
+            }
+        })
+    }
+
+    /// The steps of a sample: mostly near one of the three limits that stand in the image.
+    pub fn image_steps(&mut self, image: &[u8]) -> i16 {
+        let at = 0x38 + self.below(3);
+        match image.get(at) {
+            Some(limit) if !self.once_in(4) => self.near(*limit as i8),
+            _ => self.steps(),
+        }
+    }
+
     /// An image: mostly of the chip's length, of any length at times; power-on bytes, power-on
     /// bytes with one bit flipped, random bytes, or random bytes with the chip's identity.
     pub fn image(&mut self, chip: u8) -> Vec<u8> {
@@ -152,7 +196,7 @@ impl Random {
         let kind = self.below(5);
         let mut image = self.bytes(model::image_length(chip));
         if kind < 2 {
-            model::reset(chip, &mut image);
+            model::reset(chip, &mut image, NEW);
         } else if kind < 4 {
             self.identify(chip, &mut image);
         }

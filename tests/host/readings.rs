@@ -82,6 +82,9 @@ pub struct Watch {
     pub pending: bool,
 }
 
+/// A default watch, "both off at first": of the calls that take a watch and don't use it.
+pub const NEW: Watch = Watch { behaviour: DEFAULT, hot: false, pending: false };
+
 /// "An alarm sample is a 12-bit step count and may be refused by 12 only." "If the sample is
 /// above the high limit, hot goes on; otherwise, if it is below the hysteresis limit, hot
 /// goes off; otherwise hot stays. Then: in default, pending goes on if hot is on; in

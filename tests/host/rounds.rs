@@ -48,22 +48,24 @@ pub fn damaged_records<S: Subject>(d: &mut Driver<S>, r: &mut Random, rounds: us
     }
 }
 
-/// Chains of writes, reads and resets.
+/// Chains of writes, reads and resets, with a watch that each read and reset hands back.
 pub fn images<S: Subject>(d: &mut Driver<S>, r: &mut Random, rounds: usize) {
     let mut chip = r.chip();
     let mut image = r.image(chip);
+    let mut watch = r.watch();
     for _ in 0..rounds {
         if r.once_in(20) {
             chip = r.chip();
             image = r.image(chip);
+            watch = r.watch();
             d.identity(chip, &image);
         }
         if r.once_in(50) {
-            d.reset(chip, &mut image);
+            watch = d.reset(chip, &mut image, watch).1;
         }
         let address = r.byte();
         d.write(chip, &mut image, address, r.byte());
-        d.read(chip, &image, address);
+        watch = d.read(chip, &mut image, watch, address).2;
     }
 }
 

@@ -28,8 +28,14 @@ static const uint8_t record_5[] = {0x43, 0x51, 5,    3,    0x07, 0x1E, 0x23, 0x2
 static void nothing(void) {}
 static void do_write(void) { answer = yk_write(chip, image, length, 0x91, 0xFF); }
 static void do_initialize(void) { answer = yk_write(chip, image, length, 0x00, 0x80); }
-static void do_read(void) { answer = yk_read(chip, image, length, 0x91); }
-static void do_reset(void) { answer = yk_reset(chip, image, length); }
+static void do_read(void) { answer = yk_read(chip, image, length, 0x91, YK_DEFAULT, 3); }
+static void do_read_status(void) { answer = yk_read(chip, image, length, 0x01, YK_DEFAULT, 3); }
+static void do_reset(void) { answer = yk_reset(chip, image, length, YK_DEFAULT, 3); }
+static void do_sample_image(void)
+{
+    answer = yk_sample_image(image, length, YK_DEFAULT, 0, 1296, 0x8100, 0x2000, 0xFFC0, 0, 0x4000, 0x8000,
+                             0xC000);
+}
 static void do_identity(void) { answer = yk_identity(chip, image, length); }
 static void do_steps(void) { answer = yk_steps(12, 0xC9, 0x00); }
 static void do_bytes(void) { answer = yk_bytes(12, -880); }
@@ -113,6 +119,8 @@ int main(void)
     tell_chip(YK_IMAGE, record_1, sizeof record_1);
     tell_image(3, YK_IMAGE);
     tell("yk_write, bit 7", do_initialize);
+    tell("yk_read, 01h", do_read_status);
+    tell("yk_sample_image", do_sample_image);
     tell_chip(YK_IMAGE_CHIP_4, record_4, sizeof record_4);
     tell_chip(YK_IMAGE_CHIP_5, record_5, sizeof record_5);
     return 0;

@@ -5,8 +5,12 @@ use crate::model::{self, Plan, Watch, BODY};
 
 pub trait Subject {
     fn write(&self, chip: u8, image: &mut [u8], address: u8, byte: u8) -> u32;
-    fn read(&self, chip: u8, image: &[u8], address: u8) -> (u32, u8);
-    fn reset(&self, chip: u8, image: &mut [u8]) -> u32;
+    /// Refusal, the byte, the watch afterwards and its output.
+    fn read(&self, chip: u8, image: &mut [u8], watch: Watch, address: u8) -> (u32, u8, Watch, bool);
+    /// Refusal, the watch afterwards and its output.
+    fn reset(&self, chip: u8, image: &mut [u8], watch: Watch) -> (u32, Watch, bool);
+    /// The same.
+    fn sample_image(&self, image: &mut [u8], watch: Watch, steps: i16, words: [u16; 7]) -> (u32, Watch, bool);
     fn identity(&self, chip: u8, image: &[u8]) -> u32;
     fn steps_of(&self, width: u8, high: u8, low: u8) -> (u32, i16);
     fn bytes_of(&self, width: u8, steps: i16) -> (u32, u8, u8);
@@ -44,8 +48,9 @@ pub struct Model;
 #[rustfmt::skip]
 impl Subject for Model {
     #[inline(never)] fn write(&self, chip: u8, image: &mut [u8], address: u8, byte: u8) -> u32 { model::write(chip, image, address, byte) }
-    #[inline(never)] fn read(&self, chip: u8, image: &[u8], address: u8) -> (u32, u8) { model::read(chip, image, address) }
-    #[inline(never)] fn reset(&self, chip: u8, image: &mut [u8]) -> u32 { model::reset(chip, image) }
+    #[inline(never)] fn read(&self, chip: u8, image: &mut [u8], watch: Watch, address: u8) -> (u32, u8, Watch, bool) { let (refusal, byte, after) = model::read(chip, image, watch, address); (refusal, byte, after, model::output(after)) }
+    #[inline(never)] fn reset(&self, chip: u8, image: &mut [u8], watch: Watch) -> (u32, Watch, bool) { let (refusal, after) = model::reset(chip, image, watch); (refusal, after, model::output(after)) }
+    #[inline(never)] fn sample_image(&self, image: &mut [u8], watch: Watch, steps: i16, words: [u16; 7]) -> (u32, Watch, bool) { let (refusal, after) = model::sample_image(image, watch, steps, words); (refusal, after, model::output(after)) }
     #[inline(never)] fn identity(&self, chip: u8, image: &[u8]) -> u32 { model::identity(chip, image) }
     #[inline(never)] fn steps_of(&self, width: u8, high: u8, low: u8) -> (u32, i16) { model::steps_of(width, high, low) }
     #[inline(never)] fn bytes_of(&self, width: u8, steps: i16) -> (u32, u8, u8) { model::bytes_of(width, steps) }

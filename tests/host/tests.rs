@@ -2,11 +2,14 @@
 //! are checked on the agreed answers.
 
 use crate::driver::{hold, Driver, NAMES};
-use crate::model::{self, Plan, Watch, SCRIPT};
+use crate::model::{self, Plan, Watch, NEW, SCRIPT};
 use crate::random::{Draft, Random};
 use crate::restarts::restarts;
 use crate::rounds::{
     cut_bodies, cuts, damaged_records, images, plans, plays, records, runs, selects, texts, watches,
+};
+use crate::states::{
+    every_channel, every_read, every_refusal, every_register, every_temperature, every_voltage, traces,
 };
 use crate::subject::Subject;
 
@@ -19,6 +22,12 @@ pub fn run<S: Subject>(d: &mut Driver<S>, seed: u64, rounds: usize) {
     every_write(d, r);
     every_initialization(d, r);
     every_select(d, r);
+    every_read(d, r);
+    every_voltage(d, r);
+    every_temperature(d, r);
+    every_channel(d, r);
+    every_register(d, r);
+    every_refusal(d, r);
     selects(d, r);
     every_flip(d);
     every_reading(d);
@@ -41,6 +50,7 @@ pub fn run<S: Subject>(d: &mut Driver<S>, seed: u64, rounds: usize) {
         cuts(d, r, 5, 40);
         texts(d, r, 150);
     }
+    traces(d, r, 5_000 * rounds);
     restarts(d, r, 128 * rounds);
     for (name, calls) in NAMES.iter().zip(d.calls.iter()) {
         println!("{:16} {:9}", name, calls);
@@ -50,7 +60,7 @@ pub fn run<S: Subject>(d: &mut Driver<S>, seed: u64, rounds: usize) {
 /// A power-on image.
 pub fn power_on<S: Subject>(d: &mut Driver<S>, chip: u8) -> Vec<u8> {
     let mut image = vec![0xA5; model::image_length(chip)];
-    hold(d.reset(chip, &mut image) == 0, "a reset is accepted", &chip);
+    hold(d.reset(chip, &mut image, NEW) == (0, NEW), "a reset is accepted", &chip);
     image
 }
 
@@ -79,9 +89,13 @@ fn every_chip<S: Subject>(d: &mut Driver<S>, r: &mut Random) {
             }
             let mut image = r.bytes(length);
             d.identity(chip, &image);
-            d.read(chip, &image, r.byte());
+            let watch = r.watch();
+            let read = d.read(chip, &mut image, watch, r.byte());
             d.write(chip, &mut image, r.byte(), r.byte());
-            d.reset(chip, &mut image);
+            let reset = d.reset(chip, &mut image, watch);
+            let kept = (read.1, read.2, reset.1) == (0, watch, watch);
+            hold(read.0 == reset.0, "reads and resets check 3 and 8", &(chip, length));
+            hold(read.0 == 0 || kept, "a refused watch comes back unchanged", &(chip, length, watch));
             let plan = r.good_plan();
             d.play(plan.plan(), &mut image, 99);
             d.asked_of_image(plan.chip, plan.table, &image, r.byte());
@@ -167,7 +181,8 @@ fn every_write<S: Subject>(d: &mut Driver<S>, r: &mut Random) {
                 let initializes = (chip, address) == (3, 0x00) && byte >= 0x80;
                 hold(initializes || image == before, "every other address", &(chip, address, byte));
             }
-            hold(d.read(chip, &image, address) == (0, image[usize::from(address)]), "read", &address);
+            let held = image[usize::from(address)];
+            hold(d.read(chip, &mut image, NEW, address) == (0, held, NEW), "read", &(chip, address));
         }
     }
 }
@@ -248,9 +263,11 @@ fn every_select<S: Subject>(d: &mut Driver<S>, r: &mut Random) {
                 let at = 256 * usize::from(bank) + usize::from(address);
                 let held = image.get(at).copied();
                 let inputs = (chip, select, address);
-                let read = d.read(chip, &image, address);
-                hold(read == (0, held.unwrap_or(0)), "where a read lands", &inputs);
                 let mut before = image.clone();
+                let watch = Watch { behaviour: select % 3, hot: address % 2 != 0, pending: address % 4 < 2 };
+                let read = d.read(chip, &mut image, watch, address);
+                hold(read == (0, held.unwrap_or(0), watch), "where a read lands", &inputs);
+                hold(image == before, "a read of a chip with banks changes nothing", &inputs);
                 d.write(chip, &mut image, address, r.byte());
                 if held.is_some() {
                     before[at] = image[at];

@@ -15,7 +15,7 @@ use pages::Required;
 use pages::Selector;
 use pages::Shape;
 use pages::Sizes;
-ghost use Rattle.pages.specs.Contracts.{Names, Finds, Acts, PowersOn, TellsSizes, Requires, Lays, LaysOut, Stands, Selects, Positions};
+ghost use Rattle.pages.specs.Contracts.{Names, Finds, Acts, Reports, PowersOn, TellsSizes, Requires, Lays, LaysOut, Stands, Selects, Positions};
 
 // How many bytes an image has at most.
 pub const GREATEST: usize = 1280;
@@ -60,6 +60,19 @@ pub fn effects_of(chip: Chip, position: usize) -> Effects
     }
 }
 
+// Whether a register of the image tells a status: a read clears it, and is the acknowledge.
+pub fn is_status(chip: Chip, position: usize) -> bool
+    ensures { λ r. ⌜ Reports chip position r ⌝ }
+{
+    match chip {
+        Chip::Nct7802y => false,
+        Chip::F75373s => false,
+        Chip::Nct80 => (position == 0x01) | (position == 0x02),
+        Chip::Nct7904d => false,
+        Chip::W83793g => false,
+    }
+}
+
 // What a register of the image holds at power-on, and 0 behind the card's end.
 pub fn power_on_of(chip: Chip, position: usize) -> u8
     ensures { λ r. ⌜ PowersOn chip position r ⌝ }
@@ -73,7 +86,7 @@ pub fn power_on_of(chip: Chip, position: usize) -> u8
     }
 }
 
-// How long the chip's image and its identity are. Where identity looks at no register, nothing is confirmed.
+// How long the chip's image and its identity are, and how many status registers it has. Where identity looks at no register, nothing is confirmed.
 pub fn sizes_of(chip: Chip) -> Sizes
     ensures { λ r. ⌜ TellsSizes chip r ⌝ }
 {
@@ -81,22 +94,27 @@ pub fn sizes_of(chip: Chip) -> Sizes
         Chip::Nct7802y => Sizes {
             image: 256,
             identity: 5,
+            status: 0,
         },
         Chip::F75373s => Sizes {
             image: 256,
             identity: 4,
+            status: 0,
         },
         Chip::Nct80 => Sizes {
             image: 256,
             identity: 0,
+            status: 2,
         },
         Chip::Nct7904d => Sizes {
             image: 1280,
             identity: 6,
+            status: 0,
         },
         Chip::W83793g => Sizes {
             image: 768,
             identity: 3,
+            status: 0,
         },
     }
 }

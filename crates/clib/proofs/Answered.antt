@@ -26,6 +26,13 @@ told-answered {A} none value checks e =
 pub left-kept : (checks : List Check) (held : List ℕ) {number : ℕ} {old new : List ℕ} → number ≡ first checks → new ≡ left checks held old → Kept number old new
 left-kept checks held {old = old} e l = λ some. l ∙ all-left held old checks (λ z. some (e ∙ z))
 
+-- any values, and a lent buffer
+pub with-buffer : {A : Type 0} (none : A) (checks : List Check) (value : A) (held : List ℕ) {told : ℕ × A} {old new : List ℕ} → told ≡ toldOr none checks value
+    → new ≡ left checks held old → Answered checks none told × Kept (told .0) old new
+with-buffer none checks value held e l =
+    let A = told-answered none value checks e in
+    (A, left-kept checks held (A .number) l)
+
 -- a call that has no check tells no number
 pub never-refused : {A : Type 0} (none value : A) → Answered [] none (0, value)
 never-refused none value = record { number = refl; zero = λ some. absurd (some refl) }
@@ -36,9 +43,7 @@ verdict-answered r checks e = record { number = e; zero = λ some. refl }
 
 pub count-answered : (r : Amount) (checks : List Check) (value : ℕ) (held : List ℕ) {old new : List ℕ} → tellsAmount r ≡ told checks value → new ≡ left checks held old
     → Answered checks 0 (tellsAmount r) × Kept (tellsAmount r .0) old new
-count-answered r checks value held e l =
-    let A = told-answered 0 value checks e in
-    (A, left-kept checks held (A .number) l)
+count-answered r checks value held e l = with-buffer 0 checks value held e l
 
 pub found-answered : (checks : List Check) (count : ℕ) (plan : Plan) (r : Found) → tellsAmount (r .answer) ≡ toldOr 0 checks count
     → r .plan ≡ toldOr noPlan checks plan .1 → Answered checks (0, noPlan) (tellsFound r)
@@ -105,6 +110,16 @@ packed-count a checks value r held t e l p =
     let C = count-answered a checks value held e l in (
       packed-answered (λ n. n) checks 0 (tellsAmount a) t (C .0) p,
       packed-kept checks (tellsAmount a .0) (tellsAmount a .1) r t (C .0 .number) p (C .1),
+    )
+
+-- and of one that answers any values, of which one number is made
+pub packed-buffer : {A : Type 0} (number : A → ℕ) (checks : List Check) (none value : A) (held : List ℕ) {told : ℕ × A} {r : ℕ} {old new : List ℕ} → So (small checks)
+    → told ≡ toldOr none checks value → new ≡ left checks held old → r ≡ packed (told .0) (number (told .1))
+    → Answered checks (number none) (unpacked r) × Kept (unpacked r .0) old new
+packed-buffer number checks none value held {told} {r} t e l p =
+    let B = with-buffer none checks value held e l in (
+      packed-answered number checks none told t (B .0) p,
+      packed-kept checks (told .0) (number (told .1)) r t (B .0 .number) p (B .1),
     )
 
 -- the bytes used, the chip and the table of a record that is refused are 0

@@ -19,13 +19,13 @@ use Rattle.pages.specs.declared.Layout.{Layout}
 use Rattle.pages.specs.Rows.{masksIn, requiredIn, column, inOneRow, standsAt}
 use Rattle.pages.specs.Banks.{oneBank, standsIn}
 use Rattle.pages.specs.Sheets.{mostPoints, longest, sizesIn, missing, layout, goesWith, selectorIn}
-use Rattle.pages.specs.Cards.{sheetOf, banksOf, chipOf, chipNumber, unknown, hasTable, rowOf, effectsOf, layoutOf, groundOf, tellsNamed, tellsFan}
+use Rattle.pages.specs.Cards.{sheetOf, banksOf, chipOf, chipNumber, unknown, hasTable, rowOf, effectsOf, isStatus, layoutOf, groundOf, tellsNamed, tellsFan}
 use Rattle.pages.specs.Contracts.{Names, Lays}
 use Rattle.cards.proofs.Told.{names-told, lays-told}
 use Rattle.pages.specs.Identity.{confirmed}
 use Rattle.images.specs.declared.Admitted.{Admitted}
 use Rattle.images.specs.declared.Admitted.the-variants as admitted
-use Rattle.images.specs.Bytes.{storedAt}
+use Rattle.images.specs.Bytes.{storedAt, position, seen}
 use Rattle.images.specs.Contracts.{imageChecks, tellsAdmitted}
 use Rattle.images.proofs.Admission.{admits-told}
 use Rattle.identities.specs.Contracts.{identityChecks, Confirms}
@@ -37,6 +37,7 @@ use Rattle.watch.specs.declared.Watch.{Watch}
 use Rattle.watch.specs.declared.Sampled.{Sampled}
 use Rattle.watch.specs.Alarm.{fresh, taken, isSample, acknowledged, shown, run, recorded}
 use Rattle.watch.specs.Contracts as watch
+use Rattle.channels.specs.Contracts.{channelChecks}
 use Rattle.curves.specs.declared.Plan.{Plan}
 use Rattle.curves.specs.Planned.{planned, asks, temperaturesInOrder, speedsInOrder, fullOf}
 use Rattle.bodies.specs.Bodies.{bodyOf, decoded}
@@ -45,9 +46,10 @@ use Rattle.plans.proofs.Laws.{accepted-plan, refused-plan}
 use Rattle.records.proofs.RoundTrip.{read-written, written-read}
 use Rattle.scripts.specs.Scripts.{placements, routed, scriptOf}
 use Rattle.scripts.specs.Played.{laid}
-use Rattle.clib.specs.Facts.{factsOf}
+use Rattle.clib.specs.Facts.{watchOf, factsOf}
+use Rattle.clib.specs.Packed.{withByte}
 use Rattle.clib.specs.Demands.{Answered, Demand1, Demand2}
-use Rattle.clib.proofs.Answered.{told-answered, left-kept, verdict-answered, count-answered, found-answered, never-refused, packed-answered, packed-verdict, packed-count, used-answered}
+use Rattle.clib.proofs.Answered.{told-answered, left-kept, verdict-answered, count-answered, found-answered, with-buffer, never-refused, packed-answered, packed-verdict, packed-count, packed-buffer, used-answered}
 
 -- where a number names no chip, and where a chip has no such table
 named-answered : (number : ℕ) (r : Named) → Names number r → Answered ((unknown number, 3) ∷ []) 0 (tellsNamed r)
@@ -92,6 +94,7 @@ demand-1 =
       chip-of = named-answered;
       masks-of = λ chip position. record { answer = masksIn (rowOf chip position); kept = record { answer = refl } };
       effects-of = λ chip position. record { answer = effectsOf chip position; kept = record { answer = refl } };
+      is-status = λ chip position. record { answer = isStatus chip position; kept = record { answer = refl } };
       power-on-of = λ chip position. record { answer = rowOf chip position .power; kept = record { answer = refl } };
       sizes-of = λ chip. record { answer = sizesIn (sheetOf chip); kept = record { answer = refl } };
       required-of = λ chip k. record { answer = requiredIn (sheetOf chip .identity) k; kept = record { answer = refl } };
@@ -106,7 +109,7 @@ demand-1 =
       admit = λ chip size r p. told-answered 0 chip _ (admits-told p);
       write = λ chip old address byte r new p. (verdict-answered r _ (p .answer), left-kept (imageChecks chip old) _ (p .answer) (p .bytes));
       place = λ register byte old. record { answer = storedAt (register .masks) (register .position) byte old; kept = record { bytes = refl } };
-      read = λ chip image address r p. told-answered 0 _ _ (p .answer);
+      look = λ chip image address. record { answer = record { position = position chip image address; byte = seen chip address image }; kept = record { answer = refl } };
       reset = λ chip old r new p. (verdict-answered r _ (p .answer), left-kept (imageChecks chip old) _ (p .answer) (p .bytes));
       confirm = λ chip image r p. verdict-answered r _ (p .answer);
       steps-of = λ width high low r p. told-answered (pos 0) _ _ (p .answer);
@@ -121,6 +124,9 @@ demand-1 =
       watch-acknowledge = λ w. record { answer = acknowledged w; kept = record { answer = refl } };
       watch-output = λ w. record { answer = shown (w .behaviour) (w .hot) (w .pending); kept = record { answer = refl } };
       watch-run = λ w samples high hysteresis. record { answer = run w (recorded high hysteresis samples); kept = record { answer = refl } };
+      sample-channels = λ old w steps words r new p. with-buffer w (channelChecks old steps) _ _ (p .answer) (p .bytes);
+      read = λ chip old address w r new p. with-buffer (0, w) (imageChecks chip old) _ _ (p .answer) (p .bytes);
+      reset-chip = λ chip old w r new p. with-buffer w (imageChecks chip old) _ _ (p .answer) (p .bytes);
       count-of = λ points. record { answer = min points mostPoints; kept = record { answer = refl } };
       speed-of = λ shape plan t. record { answer = asks shape (planned shape plan) t; kept = record { answer = refl } };
       temperatures-in-order = λ shape plan. record { answer = temperaturesInOrder shape plan; kept = record { answer = refl } };
@@ -145,8 +151,12 @@ demand-1 =
       play = λ plan old count r new p. count-answered r _ _ _ (p .answer) (p .bytes);
       translate = λ input old r new p. count-answered r _ _ _ (p .answer) (p .bytes);
       yk-write = λ chip old address byte r new p. packed-verdict (p .answer) _ r _ refl (p .kept .answer) (p .kept .bytes) (p .same);
-      yk-read = λ chip image address r p. packed-answered (λ n. n) _ 0 _ refl (told-answered 0 _ _ (p .kept .answer)) (p .same);
-      yk-reset = λ chip old r new p. packed-verdict (p .answer) _ r _ refl (p .kept .answer) (p .kept .bytes) (p .same);
+      yk-read = λ chip old address behaviour facts r new p.
+          packed-buffer withByte (imageChecks chip old) (0, watchOf behaviour facts) _ _ refl (p .kept .answer) (p .kept .bytes) (p .same);
+      yk-reset = λ chip old behaviour facts r new p.
+          packed-buffer factsOf (imageChecks chip old) (watchOf behaviour facts) _ _ refl (p .kept .answer) (p .kept .bytes) (p .same);
+      yk-sample-image = λ old behaviour facts steps words r new p.
+          packed-buffer factsOf (channelChecks old steps) (watchOf behaviour facts) _ _ refl (p .kept .answer) (p .kept .bytes) (p .same);
       yk-identity = λ chip image r p. packed-answered (λ none. 0) _ tt _ refl (verdict-answered (p .answer) _ (p .kept .answer)) (p .same);
       yk-steps = λ width high low r p. packed-answered asWord _ (pos 0) _ refl (told-answered (pos 0) _ _ (p .kept .answer)) (p .same);
       yk-bytes = λ width steps r p. packed-answered (λ b. b .0 * 256 + b .1) _ (0, 0) _ refl (told-answered (0, 0) _ _ (p .kept .answer)) (p .same);

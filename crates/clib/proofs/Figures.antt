@@ -10,7 +10,7 @@ use lib.Dec.{eqb}
 use lib.IntN.{ℤ, pos, negℤ}
 use lib.ListN.{length, replicate}
 use Rattle.refusal.specs.Checks.{first, told, toldOr, roomChecks}
-use Rattle.pages.specs.Cards.{sheetOf, chipOf, whenKnown, rowOf, shapeOf}
+use Rattle.pages.specs.Cards.{sheetOf, chipOf, whenKnown, rowOf, isStatus, shapeOf}
 use Rattle.pages.specs.Nct7802y as nct7802y
 use Rattle.pages.specs.F75373s as f75373s
 use Rattle.pages.specs.Nct7904d as nct7904d
@@ -40,17 +40,23 @@ use Rattle.right_readings.specs.Contracts.{rightChecks}
 use Rattle.watch.specs.declared.Watch.{Watch}
 use Rattle.watch.specs.Alarm as alarm
 use Rattle.watch.specs.Contracts.{sampleChecks}
+use Rattle.channels.specs.Channels.{sampled}
+use Rattle.channels.specs.Contracts.{channelChecks, leaves}
+use Rattle.states.specs.States.{afterRead, afterReset}
+use Rattle.states.specs.Contracts.{leftOf}
 use Rattle.records.specs.Records.{recordLength, chipNumberIn, planIn, noPlan}
 use Rattle.records.specs.Contracts.{recordChecks}
 use Rattle.translation.specs.Words.{decimal}
 use Rattle.translation.specs.Text.{textOf, endLine}
 use Rattle.clib.specs.Facts.{watchOf, factsOf}
-use Rattle.clib.specs.Packed.{packed, packs}
-use Rattle.clib.specs.Contracts.{YkRead, YkIdentity, YkSteps, YkBytes, YkMicrovolts, YkRightSteps, YkRightBytes, YkInputMicrovolts, YkSample, YkAcknowledge, YkRun, YkReadRecord, YkAskedOfImage, YkTranslate}
+use Rattle.clib.specs.Packed.{packed, packs, withByte}
+use Rattle.clib.specs.Contracts.{YkRead, YkReset, YkSampleImage, YkIdentity, YkSteps, YkBytes, YkMicrovolts, YkRightSteps, YkRightBytes, YkInputMicrovolts, YkSample, YkAcknowledge, YkRun, YkReadRecord, YkAskedOfImage, YkTranslate}
 
 -- a call and what it is given; samples come with the limits 80 and 75
 pub data Call : Type 0 where
-  read : ℕ → List ℕ → ℕ → Call
+  read : ℕ → List ℕ → ℕ → ℕ → ℕ → Call
+  reset : ℕ → List ℕ → ℕ → ℕ → Call
+  sampleImage : List ℕ → ℕ → ℕ → ℤ → List ℕ → Call
   identity : ℕ → List ℕ → Call
   steps : ℕ → ℕ → ℕ → Call
   bytes : ℕ → ℤ → Call
@@ -66,7 +72,9 @@ pub data Call : Type 0 where
   translate : List ℕ → List ℕ → Call
 
 abbrev pub Promise : Call → ℕ → Type 0
-Promise (read chip image address) r = YkRead chip image address r
+Promise (read chip image address behaviour facts) r = (new : List ℕ) × YkRead chip image address behaviour facts r new
+Promise (reset chip image behaviour facts) r = (new : List ℕ) × YkReset chip image behaviour facts r new
+Promise (sampleImage image behaviour facts n words) r = (new : List ℕ) × YkSampleImage image behaviour facts n words r new
 Promise (identity chip image) r = YkIdentity chip image r
 Promise (steps width high low) r = YkSteps width high low r
 Promise (bytes width n) r = YkBytes width n r
@@ -91,12 +99,21 @@ ofBytes t = packed (t .0) (t .1 .0 * 256 + t .1 .1)
 abbrev ofWatch : ℕ × Watch → ℕ
 ofWatch t = packed (t .0) (factsOf (t .1))
 
+abbrev ofByte : ℕ × (ℕ × Watch) → ℕ
+ofByte t = packed (t .0) (withByte (t .1))
+
 abbrev ofRecord : ℕ × ℕ → Plan → ℕ
 ofRecord t plan = packed (t .0) (cond (eqb (t .0) 0) (t .1 + 256 * plan .chip + 65536 * plan .table) 0)
 
 -- the number that a call's contract leaves
 abbrev answer : Call → ℕ
-answer (read chip image address) = packs (told (imageChecks chip image) (whenKnown (chipOf chip) (λ c. seen c address image) 0))
+answer (read chip image address behaviour facts) =
+    ofByte (toldOr (0, watchOf behaviour facts) (imageChecks chip image)
+    (whenKnown (chipOf chip) (λ c. seen c address image) 0, leftOf chip (λ c. afterRead c address) image (watchOf behaviour facts) .watch))
+answer (reset chip image behaviour facts) =
+    ofWatch (toldOr (watchOf behaviour facts) (imageChecks chip image) (leftOf chip afterReset image (watchOf behaviour facts) .watch))
+answer (sampleImage image behaviour facts n words) =
+    ofWatch (toldOr (watchOf behaviour facts) (channelChecks image n) (leaves image (watchOf behaviour facts) n words .watch))
 answer (identity chip image) = packed (first (identityChecks chip image)) 0
 answer (steps width high low) = ofSteps (toldOr (pos 0) (stepsChecks width) (readings.stepsAt width high low))
 answer (bytes width n) = ofBytes (toldOr (0, 0) (bytesChecks width n) (readings.bytesAt width n))
@@ -116,7 +133,9 @@ answer (askedOfImage chip table image t) =
 answer (translate input old) = packs (told (roomChecks (length (textOf input)) old) (length (textOf input)))
 
 only : (call : Call) (r : ℕ) → Promise call r → r ≡ answer call
-only (read chip image address) r p = p .same ∙ ap packs (p .kept .answer)
+only (read chip image address behaviour facts) r p = p .1 .same ∙ ap ofByte (p .1 .kept .answer)
+only (reset chip image behaviour facts) r p = p .1 .same ∙ ap ofWatch (p .1 .kept .answer)
+only (sampleImage image behaviour facts n words) r p = p .1 .same ∙ ap ofWatch (p .1 .kept .answer)
 only (identity chip image) r p = p .same ∙ ap (λ (n : ℕ). packed n 0) (p .kept .answer)
 only (steps width high low) r p = p .same ∙ ap ofSteps (p .kept .answer)
 only (bytes width n) r p = p .same ∙ ap ofBytes (p .kept .answer)
@@ -241,20 +260,41 @@ figures =
     ∷ (inputMicrovolts 0x5C 0x19 0x06, 256 * 1236000)
     ∷ (inputMicrovolts 0x62 0x19 0x06, 0)
     -- "the byte"; 6 is no chip; chip 4's image is longer; "Chip 3 is never confirmed"
-    ∷ (read 1 image 0, 0x5A00)
-    ∷ (read 6 image 0, 0x0003)
-    ∷ (read 4 image 0, 0x0008)
+    ∷ (read 1 image 0 0 0, 0x5A0000)
+    ∷ (read 6 image 0 0 0, 0x000003)
+    ∷ (read 4 image 0 0 0, 0x000008)
+    -- "bits 15 to 8 are the byte", below them hot, pending and the output. A read of 01h and 02h of chip 3 is the acknowledge; no other read is one, and a
+    -- refused read carries the facts as they were
+    ∷ (read 3 image 0x01 0 3, 0x5A0100)
+    ∷ (read 3 image 0x02 1 0xFF, 0x5A0100)
+    ∷ (read 3 image 0x02 2 3, 0x5A0500)
+    ∷ (read 3 image 0x00 0 3, 0x5A0700)
+    ∷ (read 3 image 0x03 0 3, 0x5A0700)
+    ∷ (read 1 image 0x01 0 3, 0x5A0700)
+    ∷ (read 3 [] 0x01 0 3, 0x000708)
+    -- a reset of chip 3 turns both facts off; another chip has none of its own
+    ∷ (reset 3 image 0 3, 0x0000)
+    ∷ (reset 3 image 2 3, 0x0000)
+    ∷ (reset 1 image 0 3, 0x0700)
+    ∷ (reset 6 image 0 3, 0x0703)
+    ∷ (reset 4 image 2 1, 0x0508)
+    -- a sample above 38h, 90 degrees here, and one that is exactly there; with 08h FFh the temperature is disabled; 8, then 12
+    ∷ (sampleImage image 0 0 (pos 1441) (replicate 7 0), 0x0700)
+    ∷ (sampleImage image 0 0 (pos 1440) (replicate 7 0), 0x0000)
+    ∷ (sampleImage (replicate 256 0xFF) 0 1 (pos 2047) (replicate 7 0), 0x0100)
+    ∷ (sampleImage (replicate 255 0xFF) 0 3 (pos 2048) (replicate 7 0), 0x0708)
+    ∷ (sampleImage (replicate 256 0xFF) 0 3 (pos 2048) (replicate 7 0), 0x070C)
     -- bits 2 to 0 of FFh select bank 3, and 7Ah and FFh are seen there; with code 6 only they answer
-    ∷ (read 4 (imageOf4 0x83) 0x20, 0x2200)
-    ∷ (read 4 (imageOf4 0x83) 0x7A, 0x1100)
-    ∷ (read 4 (imageOf4 0x83) 0xFF, 0x8300)
-    ∷ (read 4 (imageOf4 0x86) 0x20, 0x0000)
-    ∷ (read 4 (imageOf4 0x86) 0x7A, 0x1100)
+    ∷ (read 4 (imageOf4 0x83) 0x20 0 0, 0x220000)
+    ∷ (read 4 (imageOf4 0x83) 0x7A 0 0, 0x110000)
+    ∷ (read 4 (imageOf4 0x83) 0xFF 0 0, 0x830000)
+    ∷ (read 4 (imageOf4 0x86) 0x20 0 0, 0x000000)
+    ∷ (read 4 (imageOf4 0x86) 0x7A 0 0, 0x110000)
     -- bits 2 to 0 of 00h select bank 2; the vendor byte is the high one in every bank, whatever bit 7 of 00h holds; with code 5 only such registers answer
-    ∷ (read 5 (imageOf5 0x82 0x11) 0x20, 0x2200)
-    ∷ (read 5 (imageOf5 0x02 0x11) 0x0D, 0x5C00)
-    ∷ (read 5 (imageOf5 0x85 0x11) 0x20, 0x0000)
-    ∷ (read 5 (imageOf5 0x85 0x11) 0x0E, 0x7B00)
+    ∷ (read 5 (imageOf5 0x82 0x11) 0x20 0 0, 0x220000)
+    ∷ (read 5 (imageOf5 0x02 0x11) 0x0D 0 0, 0x5C0000)
+    ∷ (read 5 (imageOf5 0x85 0x11) 0x20 0 0, 0x000000)
+    ∷ (read 5 (imageOf5 0x85 0x11) 0x0E 0 0, 0x7B0000)
     ∷ (identity 2 imageOf2, 0x0000)
     ∷ (identity 3 image, 0x000A)
     -- "0Fh is 11h or 12h"
@@ -289,5 +329,5 @@ figures =
     ∷ []
 
 pub figures-hold : AllHold figures
-unfolding sheetOf rowOf column agree figures factsOf position selected pointsPass temperaturesPass speedsPass w83793g.card bankA.bank bankB.bank bankC.bank nct7802y.card f75373s.card nct7904d.card bank0.bank bank1.bank bank2.bank bank3.bank bank4.bank confirmed curves.words curves.halves curves.slope curves.below curves.stepRule textOf endLine decimal
+unfolding sheetOf rowOf isStatus column agree figures factsOf position selected afterRead sampled pointsPass temperaturesPass speedsPass w83793g.card bankA.bank bankB.bank bankC.bank nct7802y.card f75373s.card nct7904d.card bank0.bank bank1.bank bank2.bank bank3.bank bank4.bank confirmed curves.words curves.halves curves.slope curves.below curves.stepRule textOf endLine decimal
 figures-hold = each figures refl

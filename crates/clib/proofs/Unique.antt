@@ -11,13 +11,15 @@ use Rattle.identities.proofs.Unique as identities
 use Rattle.readings.proofs.Unique as readings
 use Rattle.right_readings.proofs.Unique as right
 use Rattle.watch.proofs.Unique as watch
+use Rattle.channels.proofs.Unique as channels
+use Rattle.states.proofs.Unique as states
 use Rattle.plans.proofs.Unique as plans
 use Rattle.records.proofs.Unique as records
 use Rattle.scripts.proofs.Unique as scripts
 use Rattle.plays.proofs.Unique as plays
 use Rattle.translation.proofs.Unique as translation
 use Rattle.clib.specs.Packed.{packed, Answers}
-use Rattle.clib.specs.Contracts.{YkWrite, YkRead, YkReset, YkIdentity, YkSteps, YkBytes, YkMicrovolts, YkRightSteps, YkRightBytes, YkInputMicrovolts, YkSample, YkAcknowledge, YkReadRecord, YkWriteRecord, YkAskedOfPlan, YkAskedOfImage, YkScript, YkPlay, YkTranslate, YkRun}
+use Rattle.clib.specs.Contracts.{YkWrite, YkRead, YkReset, YkSampleImage, YkIdentity, YkSteps, YkBytes, YkMicrovolts, YkRightSteps, YkRightBytes, YkInputMicrovolts, YkSample, YkAcknowledge, YkReadRecord, YkWriteRecord, YkAskedOfPlan, YkAskedOfImage, YkScript, YkPlay, YkTranslate, YkRun}
 
 pub packed-refusal : (a b v w : ℕ) → a < 256 → b < 256 → packed a v ≡ packed b w → a ≡ b
 packed-refusal a b v w h k e = omega arith
@@ -36,11 +38,20 @@ answers-unique {pack = pack} one p q = p .same ∙ ap pack (one (p .answer) (q .
 pub write-unique : {chip : ℕ} {old : List ℕ} {address byte : ℕ} {r s : ℕ} {l m : List ℕ} → YkWrite chip old address byte r l → YkWrite chip old address byte s m → (r ≡ s) × (l ≡ m)
 write-unique p q = (answers-unique (λ a b k l. images.writes-unique k l .0) p q, images.writes-unique (p .kept) (q .kept) .1)
 
-pub read-unique : {chip : ℕ} {image : List ℕ} {address : ℕ} {r s : ℕ} → YkRead chip image address r → YkRead chip image address s → r ≡ s
-read-unique p q = answers-unique (λ a b k l. images.reads-unique k l) p q
+pub read-unique : (chip : ℕ) (old : List ℕ) (address behaviour facts : ℕ) {r s : ℕ} {l m : List ℕ}
+    → YkRead chip old address behaviour facts r l → YkRead chip old address behaviour facts s m → (r ≡ s) × (l ≡ m)
+read-unique chip old address behaviour facts p q =
+    (answers-unique (λ a b k l. states.reads-unique k l .0) p q, states.reads-unique (p .kept) (q .kept) .1)
 
-pub reset-unique : {chip : ℕ} {old : List ℕ} {r s : ℕ} {l m : List ℕ} → YkReset chip old r l → YkReset chip old s m → (r ≡ s) × (l ≡ m)
-reset-unique p q = (answers-unique (λ a b k l. images.resets-unique k l .0) p q, images.resets-unique (p .kept) (q .kept) .1)
+pub reset-unique : (chip : ℕ) (old : List ℕ) (behaviour facts : ℕ) {r s : ℕ} {l m : List ℕ}
+    → YkReset chip old behaviour facts r l → YkReset chip old behaviour facts s m → (r ≡ s) × (l ≡ m)
+reset-unique chip old behaviour facts p q =
+    (answers-unique (λ a b k l. states.resets-chip-unique k l .0) p q, states.resets-chip-unique (p .kept) (q .kept) .1)
+
+pub sample-image-unique : (old : List ℕ) (behaviour facts : ℕ) (steps : ℤ) (words : List ℕ) {r s : ℕ} {l m : List ℕ}
+    → YkSampleImage old behaviour facts steps words r l → YkSampleImage old behaviour facts steps words s m → (r ≡ s) × (l ≡ m)
+sample-image-unique old behaviour facts steps words p q =
+    (answers-unique (λ a b k l. channels.samples-channels-unique k l .0) p q, channels.samples-channels-unique (p .kept) (q .kept) .1)
 
 pub identity-unique : {chip : ℕ} {image : List ℕ} {r s : ℕ} → YkIdentity chip image r → YkIdentity chip image s → r ≡ s
 identity-unique p q = answers-unique (λ a b k l. identities.confirms-unique k l) p q

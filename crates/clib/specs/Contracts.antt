@@ -9,6 +9,8 @@ use Rattle.readings.specs.Readings.{asWord}
 use Rattle.readings.specs.Contracts as readings
 use Rattle.right_readings.specs.Contracts as right
 use Rattle.watch.specs.Contracts as watch
+use Rattle.channels.specs.Contracts as channels
+use Rattle.states.specs.Contracts as states
 use Rattle.plans.specs.Contracts as plans
 use Rattle.records.specs.Contracts as records
 use Rattle.records.specs.Records.{planOf}
@@ -17,17 +19,24 @@ use Rattle.plays.specs.Contracts as plays
 use Rattle.translation.specs.Contracts as translation
 use Rattle.clib.specs.Facts.{watchOf}
 use Rattle.clib.specs.Bodies.{writeBodyChecks, scriptBodyChecks, playBodyChecks}
-use Rattle.clib.specs.Packed.{packed, packsOutcome, packsAmount, packsByte, packsAsked, packsBytes, packsSteps, packsWatch, packsSampled, packsFound, Answers}
+use Rattle.clib.specs.Packed.{packed, packsOutcome, packsAmount, packsByte, packsReset, packsAsked, packsBytes, packsSteps, packsWatch, packsSampled, packsFound, Answers}
 
 -- What each `yk_..` promises. A body and an input are only read, so they hold what they held.
 abbrev pub YkWrite : ℕ → List ℕ → ℕ → ℕ → ℕ → List ℕ → Type 0
 YkWrite chip old address byte r new = Answers packsOutcome (λ a. images.WritesByte chip old address byte a new) r
 
-abbrev pub YkRead : ℕ → List ℕ → ℕ → ℕ → Type 0
-YkRead chip image address r = Answers packsByte (λ a. images.ReadsByte chip image address a) r
+-- a read and a reset answer the facts too, and refused ones the facts as they were
+abbrev pub YkRead : ℕ → List ℕ → ℕ → ℕ → ℕ → ℕ → List ℕ → Type 0
+YkRead chip old address behaviour facts r new =
+    Answers packsByte (λ a. states.ReadsByte chip old address (watchOf behaviour facts) a new) r
 
-abbrev pub YkReset : ℕ → List ℕ → ℕ → List ℕ → Type 0
-YkReset chip old r new = Answers packsOutcome (λ a. images.Resets chip old a new) r
+abbrev pub YkReset : ℕ → List ℕ → ℕ → ℕ → ℕ → List ℕ → Type 0
+YkReset chip old behaviour facts r new = Answers packsReset (λ a. states.ResetsChip chip old (watchOf behaviour facts) a new) r
+
+-- of chip 3, with the words of IN0 to IN6
+abbrev pub YkSampleImage : List ℕ → ℕ → ℕ → ℤ → List ℕ → ℕ → List ℕ → Type 0
+YkSampleImage old behaviour facts steps words r new =
+    Answers packsSampled (λ a. channels.SamplesChannels old (watchOf behaviour facts) steps words a new) r
 
 abbrev pub YkIdentity : ℕ → List ℕ → ℕ → Type 0
 YkIdentity chip image r = Answers packsOutcome (λ a. identities.Confirms chip image a) r

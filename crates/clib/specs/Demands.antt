@@ -26,10 +26,9 @@ use Rattle.pages.specs.declared.Shape.{Shape}
 use Rattle.pages.specs.Banks.{oneBank}
 use Rattle.pages.specs.Sheets.{missing, layout}
 use Rattle.pages.specs.Cards.{chipOf, unknown, hasTable, tellsNamed, tellsFan}
-use Rattle.pages.specs.Contracts.{Names, Finds, Acts, PowersOn, TellsSizes, Requires, Lays, LaysOut, Stands, Selects, Positions, GoesWith, StandsInOneRow, StandsAt}
+use Rattle.pages.specs.Contracts.{Names, Finds, Acts, Reports, PowersOn, TellsSizes, Requires, Lays, LaysOut, Stands, Selects, Positions, GoesWith, StandsInOneRow, StandsAt}
 use Rattle.pages.specs.Identity.{confirmed}
 use Rattle.images.specs.declared.Admitted.{Admitted}
-use Rattle.images.specs.declared.ByteRead.{ByteRead}
 use Rattle.images.specs.Contracts as images
 use Rattle.identities.specs.Contracts.{identityChecks, Confirms}
 use Rattle.readings.specs.declared.Steps.{Steps}
@@ -43,6 +42,10 @@ use Rattle.watch.specs.declared.Behaviour.{Behaviour}
 use Rattle.watch.specs.declared.Watch.{Watch}
 use Rattle.watch.specs.declared.Sampled.{Sampled}
 use Rattle.watch.specs.Contracts as watch
+use Rattle.channels.specs.Contracts as channels
+use Rattle.states.specs.declared.ByteRead.{ByteRead}
+use Rattle.states.specs.declared.ChipReset.{ChipReset}
+use Rattle.states.specs.Contracts as states
 use Rattle.curves.specs.declared.Plan.{Plan}
 use Rattle.curves.specs.Values.{Sized}
 use Rattle.curves.specs.Contracts as curves
@@ -57,8 +60,9 @@ use Rattle.plays.specs.Contracts as plays
 use Rattle.translation.specs.Contracts as translation
 use Rattle.translation.specs.Text.{textOf}
 use Rattle.clib.specs.Facts.{watchOf, factsOf}
+use Rattle.clib.specs.Packed.{withByte}
 use Rattle.clib.specs.Bodies.{writeBodyChecks, scriptBodyChecks, playBodyChecks}
-use Rattle.clib.specs.Contracts.{YkWrite, YkRead, YkReset, YkIdentity, YkSteps, YkBytes, YkMicrovolts, YkRightSteps, YkRightBytes, YkInputMicrovolts, YkSample, YkAcknowledge, YkRun, YkReadRecord, YkWriteRecord, YkAskedOfPlan, YkAskedOfImage, YkScript, YkPlay, YkTranslate}
+use Rattle.clib.specs.Contracts.{YkWrite, YkRead, YkReset, YkSampleImage, YkIdentity, YkSteps, YkBytes, YkMicrovolts, YkRightSteps, YkRightBytes, YkInputMicrovolts, YkSample, YkAcknowledge, YkRun, YkReadRecord, YkWriteRecord, YkAskedOfPlan, YkAskedOfImage, YkScript, YkPlay, YkTranslate}
 
 -- Of an answer that tells a number and values: the number is that of the first check that applies, and where it is not 0 "zero in every other part of
 -- the answer" ..
@@ -93,6 +97,7 @@ pub record Demand1 : Type 0 where
   pub chip-of : (number : ℕ) (r : Named) → Names number r → Answered ((unknown number, 3) ∷ []) 0 (tellsNamed r)
   pub masks-of : (chip : Chip) (position : ℕ) → Given (λ masks. Finds chip position masks)
   pub effects-of : (chip : Chip) (position : ℕ) → Given (λ effects. Acts chip position effects)
+  pub is-status : (chip : Chip) (position : ℕ) → Given (λ r. Reports chip position r)
   pub power-on-of : (chip : Chip) (position : ℕ) → Given (λ byte. PowersOn chip position byte)
   pub sizes-of : (chip : Chip) → Given (λ sizes. TellsSizes chip sizes)
   pub required-of : (chip : Chip) (k : ℕ) → Given (λ required. Requires chip k required)
@@ -110,8 +115,7 @@ pub record Demand1 : Type 0 where
   pub write : (chip : ℕ) (old : List ℕ) (address byte : ℕ) (r : Outcome) (new : List ℕ) → images.WritesByte chip old address byte r new
       → Answered (images.imageChecks chip old) tt (verdict r) × Kept (tells r) old new
   pub place : (register : Register) (byte : ℕ) (old : List ℕ) → Given (λ new. images.Places register byte old new)
-  pub read : (chip : ℕ) (image : List ℕ) (address : ℕ) (r : ByteRead) → images.ReadsByte chip image address r
-      → Answered (images.imageChecks chip image) 0 (images.tellsByte r)
+  pub look : (chip : Chip) (image : List ℕ) (address : ℕ) → Given (λ r. images.Looks chip image address r)
   pub reset : (chip : ℕ) (old : List ℕ) (r : Outcome) (new : List ℕ) → images.Resets chip old r new
       → Answered (images.imageChecks chip old) tt (verdict r) × Kept (tells r) old new
   pub confirm : (chip : ℕ) (image : List ℕ) (r : Outcome) → Confirms chip image r → Answered (identityChecks chip image) tt (verdict r)
@@ -132,6 +136,13 @@ pub record Demand1 : Type 0 where
   pub watch-acknowledge : (w : Watch) → Given (λ r. watch.Acknowledges w r)
   pub watch-output : (w : Watch) → Given (λ r. watch.Shows w r)
   pub watch-run : (w : Watch) (samples : List ℤ) (high hysteresis : ℤ) → Given (λ r. watch.Runs w samples high hysteresis r)
+  -- a chip's state: "Refused: no byte, no fact altered"
+  pub sample-channels : (old : List ℕ) (w : Watch) (steps : ℤ) (words : List ℕ) (r : Sampled) (new : List ℕ) → channels.SamplesChannels old w steps words r new
+      → Answered (channels.channelChecks old steps) w (watch.tellsSampled r) × Kept (watch.tellsSampled r .0) old new
+  pub read : (chip : ℕ) (old : List ℕ) (address : ℕ) (w : Watch) (r : ByteRead) (new : List ℕ) → states.ReadsByte chip old address w r new
+      → Answered (images.imageChecks chip old) (0, w) (states.tellsByte r) × Kept (states.tellsByte r .0) old new
+  pub reset-chip : (chip : ℕ) (old : List ℕ) (w : Watch) (r : ChipReset) (new : List ℕ) → states.ResetsChip chip old w r new
+      → Answered (images.imageChecks chip old) w (states.tellsReset r) × Kept (states.tellsReset r .0) old new
   -- plans
   pub count-of : (points : ℕ) → Given (λ r. curves.CountsPoints points r)
   pub speed-of : (shape : Shape) (plan : Plan) (t : ℕ) → Given (λ r. curves.Asks shape plan t r)
@@ -163,9 +174,13 @@ pub record Demand1 : Type 0 where
   -- the C boundary
   pub yk-write : (chip : ℕ) (old : List ℕ) (address byte r : ℕ) (new : List ℕ) → YkWrite chip old address byte r new
       → Answered (images.imageChecks chip old) 0 (unpacked r) × Kept (unpacked r .0) old new
-  pub yk-read : (chip : ℕ) (image : List ℕ) (address r : ℕ) → YkRead chip image address r → Answered (images.imageChecks chip image) 0 (unpacked r)
-  pub yk-reset : (chip : ℕ) (old : List ℕ) (r : ℕ) (new : List ℕ) → YkReset chip old r new
-      → Answered (images.imageChecks chip old) 0 (unpacked r) × Kept (unpacked r .0) old new
+  pub yk-read : (chip : ℕ) (old : List ℕ) (address behaviour facts r : ℕ) (new : List ℕ) → YkRead chip old address behaviour facts r new
+      → Answered (images.imageChecks chip old) (withByte (0, watchOf behaviour facts)) (unpacked r) × Kept (unpacked r .0) old new
+  pub yk-reset : (chip : ℕ) (old : List ℕ) (behaviour facts r : ℕ) (new : List ℕ) → YkReset chip old behaviour facts r new
+      → Answered (images.imageChecks chip old) (factsOf (watchOf behaviour facts)) (unpacked r) × Kept (unpacked r .0) old new
+  pub yk-sample-image : (old : List ℕ) (behaviour facts : ℕ) (steps : ℤ) (words : List ℕ) (r : ℕ) (new : List ℕ)
+      → YkSampleImage old behaviour facts steps words r new
+      → Answered (channels.channelChecks old steps) (factsOf (watchOf behaviour facts)) (unpacked r) × Kept (unpacked r .0) old new
   pub yk-identity : (chip : ℕ) (image : List ℕ) (r : ℕ) → YkIdentity chip image r → Answered (identityChecks chip image) 0 (unpacked r)
   pub yk-steps : (width high low r : ℕ) → YkSteps width high low r → Answered (readings.stepsChecks width) 0 (unpacked r)
   pub yk-bytes : (width : ℕ) (steps : ℤ) (r : ℕ) → YkBytes width steps r → Answered (readings.bytesChecks width steps) 0 (unpacked r)

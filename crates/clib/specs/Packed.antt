@@ -7,8 +7,6 @@ use lib.Dec.{eqb}
 use Rattle.refusal.specs.declared.Outcome.{Outcome}
 use Rattle.refusal.specs.declared.Amount.{Amount}
 use Rattle.refusal.specs.Answers.{tells, tellsAmount}
-use Rattle.images.specs.declared.ByteRead.{ByteRead}
-use Rattle.images.specs.Contracts as images
 use Rattle.readings.specs.declared.Steps.{Steps}
 use Rattle.readings.specs.declared.Bytes.{Bytes}
 use Rattle.readings.specs.Readings.{asWord}
@@ -16,6 +14,9 @@ use Rattle.readings.specs.Contracts as readings
 use Rattle.watch.specs.declared.Watch.{Watch}
 use Rattle.watch.specs.declared.Sampled.{Sampled}
 use Rattle.watch.specs.Contracts as watch
+use Rattle.states.specs.declared.ByteRead.{ByteRead}
+use Rattle.states.specs.declared.ChipReset.{ChipReset}
+use Rattle.states.specs.Contracts as states
 use Rattle.plans.specs.declared.Asked.{Asked}
 use Rattle.plans.specs.Contracts as plans
 use Rattle.records.specs.declared.Found.{Found}
@@ -35,9 +36,6 @@ packsOutcome a = packed (tells a) 0
 abbrev pub packsAmount : Amount → ℕ
 packsAmount a = packs (tellsAmount a)
 
-abbrev pub packsByte : ByteRead → ℕ
-packsByte a = packs (images.tellsByte a)
-
 abbrev pub packsAsked : Asked → ℕ
 packsAsked a = packs (plans.tellsAsked a)
 
@@ -54,6 +52,16 @@ packsWatch w = packed 0 (factsOf w)
 
 abbrev pub packsSampled : Sampled → ℕ
 packsSampled a = packed (watch.tellsSampled a .0) (factsOf (watch.tellsSampled a .1))
+
+-- the facts, and above them the byte
+abbrev pub withByte : ℕ × Watch → ℕ
+withByte b = factsOf (b .1) + 256 * b .0
+
+abbrev pub packsByte : ByteRead → ℕ
+packsByte a = packed (states.tellsByte a .0) (withByte (states.tellsByte a .1))
+
+abbrev pub packsReset : ChipReset → ℕ
+packsReset a = packed (states.tellsReset a .0) (factsOf (states.tellsReset a .1))
 
 -- the bytes used, with the chip and the table above them where the record is read
 abbrev pub packsUsed : Amount → ℕ → ℕ → ℕ

@@ -7,7 +7,7 @@ ghost use Rattle.clib.specs.Packed.{packsSampled};
 ghost use Rattle.clib.specs.Contracts.{YkSample, YkAcknowledge, YkRun};
 
 // "a watch comes back unchanged": a refused sample answers the facts too.
-fn of_sampled(sampled: Sampled) -> u64
+pub(crate) fn of_sampled(sampled: Sampled) -> u64
     ensures { λ r. ⌜ r ≡ packsSampled sampled ⌝ }
 {
     match sampled {

@@ -1,5 +1,4 @@
 // The one number that every call answers: the refusal number in its low byte, the value above it.
-use images::ByteRead;
 use plans::Asked;
 use readings::Bytes;
 use readings::Steps;
@@ -10,7 +9,7 @@ ghost use mathlib.Core.Path.{_≡_};
 ghost use Prim.Native.Nat.{_<_, _^_};
 ghost use Rattle.refusal.specs.Refusals.{numberOf};
 ghost use Rattle.refusal.specs.Answers.{tellsAmount};
-ghost use Rattle.clib.specs.Packed.{packed, packsOutcome, packsAmount, packsByte, packsAsked, packsBytes, packsSteps, packsUsed};
+ghost use Rattle.clib.specs.Packed.{packed, packsOutcome, packsAmount, packsAsked, packsBytes, packsSteps, packsUsed};
 
 // A value of at most 56 bits has room above the refusal number.
 pub(crate) fn packed(refusal: u8, value: u64) -> u64
@@ -33,15 +32,6 @@ pub(crate) fn of_outcome(outcome: Outcome) -> u64
     match outcome {
         Outcome::Accepted => packed(0, 0),
         Outcome::Refused(refusal) => refused(refusal),
-    }
-}
-
-pub(crate) fn of_byte(read: ByteRead) -> u64
-    ensures { λ r. ⌜ r ≡ packsByte read ⌝ }
-{
-    match read {
-        ByteRead::Byte(byte) => packed(0, byte as u64),
-        ByteRead::Refused(refusal) => refused(refusal),
     }
 }
 

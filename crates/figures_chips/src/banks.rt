@@ -1,7 +1,8 @@
 // Chips 4 and 5 on the bus, with their banks. `bank chip C select SS reads D writes D` has a digest of what every address gives, and of the image after a
-// write to every address but that of the select register.
+// write to every address but that of the select register. Neither chip has a status register: no read changes anything.
 use crate::bus;
-use images::ByteRead;
+use crate::image_calls;
+use states::ByteRead;
 
 // The address of the select register, which is its position too.
 fn select_at(chip: u8) -> u8 {
@@ -38,18 +39,18 @@ fn example_4() {
     images::reset(4, &mut old);
     images::reset(4, &mut new);
     bus::write(4, &mut old, &mut new, 0xFF, 0x83);
-    bus::read(4, &new, 0xFF);
-    bus::read(4, &new, 0x20);
-    bus::read(4, &new, 0x7A);
+    bus::read(4, &mut new, 0xFF);
+    bus::read(4, &mut new, 0x20);
+    bus::read(4, &mut new, 0x7A);
     bus::write(4, &mut old, &mut new, 0x20, 0x55);
-    bus::read(4, &new, 0x20);
+    bus::read(4, &mut new, 0x20);
     bus::write(4, &mut old, &mut new, 0xFF, 0x06);
-    bus::read(4, &new, 0x20);
-    bus::read(4, &new, 0x7B);
+    bus::read(4, &mut new, 0x20);
+    bus::read(4, &mut new, 0x7B);
     bus::write(4, &mut old, &mut new, 0x20, 0x11);
     bus::write(4, &mut old, &mut new, 0xFF, 0x04);
-    bus::read(4, &new, 0x10);
-    bus::read(4, &new, 0x20);
+    bus::read(4, &mut new, 0x10);
+    bus::read(4, &mut new, 0x20);
     kept_bits(4, &mut old, &mut new, 0x2C, 0x03, [0x7A, 0x7B, 0x7C]);
 }
 
@@ -61,23 +62,23 @@ fn example_5() {
     images::reset(5, &mut old);
     images::reset(5, &mut new);
     bus::write(5, &mut old, &mut new, 0x00, 0x02);
-    bus::read(5, &new, 0x00);
-    bus::read(5, &new, 0x30);
-    bus::read(5, &new, 0xC5);
-    bus::read(5, &new, 0x0D);
+    bus::read(5, &mut new, 0x00);
+    bus::read(5, &mut new, 0x30);
+    bus::read(5, &mut new, 0xC5);
+    bus::read(5, &mut new, 0x0D);
     bus::write(5, &mut old, &mut new, 0x30, 0xA8);
-    bus::read(5, &new, 0x30);
+    bus::read(5, &mut new, 0x30);
     bus::write(5, &mut old, &mut new, 0x00, 0x05);
-    bus::read(5, &new, 0x30);
-    bus::read(5, &new, 0xC5);
-    bus::read(5, &new, 0x0E);
+    bus::read(5, &mut new, 0x30);
+    bus::read(5, &mut new, 0xC5);
+    bus::read(5, &mut new, 0x0E);
     bus::write(5, &mut old, &mut new, 0x30, 0x11);
     bus::write(5, &mut old, &mut new, 0x00, 0xF8);
-    bus::read(5, &new, 0x00);
-    bus::read(5, &new, 0x0D);
-    bus::read(5, &new, 0x0F);
-    bus::read(5, &new, 0x30);
-    bus::read(5, &new, 0xC5);
+    bus::read(5, &mut new, 0x00);
+    bus::read(5, &mut new, 0x0D);
+    bus::read(5, &mut new, 0x0F);
+    bus::read(5, &mut new, 0x30);
+    bus::read(5, &mut new, 0xC5);
     kept_bits(5, &mut old, &mut new, 0x7A, 0x81, [0x0D, 0x0E, 0x0F]);
 }
 
@@ -93,14 +94,14 @@ fn digest(image: &[u8]) -> u16 {
     digest
 }
 
-fn byte_at(chip: u8, image: &[u8], address: u8) -> u8 {
-    match images::read(chip, image, address) {
-        ByteRead::Byte(b) => b,
-        ByteRead::Refused(_) => 0,
+fn byte_at(chip: u8, image: &mut [u8], address: u8) -> u8 {
+    match image_calls::asked(chip, image, address) {
+        ByteRead::Byte(b, _) => b,
+        ByteRead::Refused(_, _) => 0,
     }
 }
 
-fn digest_of_reads(chip: u8, image: &[u8]) -> u16 {
+fn digest_of_reads(chip: u8, image: &mut [u8]) -> u16 {
     let mut digest: u16 = 0;
     for address in 0..=255u8 {
         digest = digested(digest, byte_at(chip, image, address));

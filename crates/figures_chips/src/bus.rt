@@ -1,7 +1,8 @@
 // An access on the bus as a line: `bus chip C write AA BB changed`, then each position that has changed and its byte, and `bus chip C read AA byte BB`.
 use crate::image_calls;
 
-pub fn read(chip: u8, image: &[u8], address: u8) {
+// The image is lent, since a read of 01h or 02h of chip 3 clears the byte that it shows.
+pub fn read(chip: u8, image: &mut [u8], address: u8) {
     figures_printing::labelled(b"bus chip ", chip as u64);
     figures_printing::text(b" read ");
     figures_printing::byte(address);

@@ -1,9 +1,11 @@
 // Each call on an image, at known and unknown chip numbers and at lengths about 256, 768 and 1,280. A lent buffer is filled with 5Ah beforehand, and a
 // refusal says whether it still is: `CALL chip C length L ..`.
 use figures_printing::FILL;
-use images::ByteRead;
 use refusal::Outcome;
 use refusal::Refusal;
+use states::ByteRead;
+use watch::Behaviour;
+use watch::Watch;
 
 fn plus(total: u64, b: u8) -> u64 {
     std::num::wrapping_add_u64(total, b as u64)
@@ -22,17 +24,22 @@ fn after_refusal(r: Refusal, buffer: &[u8]) {
     figures_printing::kept(buffer);
 }
 
-fn read_as(label: &[u8], chip: u8, image: &[u8], address: u8) {
-    match images::read(chip, image, address) {
-        ByteRead::Refused(r) => after_refusal(r, image),
-        ByteRead::Byte(b) => {
+// A read that brings a watch of its own, which nobody sees again. It changes the image where it reads 01h or 02h of chip 3, and nowhere else.
+pub fn asked(chip: u8, image: &mut [u8], address: u8) -> ByteRead {
+    states::read(chip, image, address, Watch::new(Behaviour::Default))
+}
+
+fn read_as(label: &[u8], chip: u8, image: &mut [u8], address: u8) {
+    match asked(chip, image, address) {
+        ByteRead::Refused(r, _) => after_refusal(r, image),
+        ByteRead::Byte(b, _) => {
             figures_printing::text(label);
             figures_printing::byte(b);
         }
     }
 }
 
-pub fn read(chip: u8, image: &[u8], address: u8) {
+pub fn read(chip: u8, image: &mut [u8], address: u8) {
     read_as(b" byte ", chip, image, address);
 }
 

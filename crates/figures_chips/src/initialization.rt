@@ -13,8 +13,8 @@ fn example() -> [u8; 256] {
     image
 }
 
-// What it holds where the request says so, and at 06h.
-fn read_back(image: &[u8]) {
+// What it holds where the request says so, and at 06h. The read of 01h clears that byte.
+fn read_back(image: &mut [u8]) {
     bus::read(3, image, 0x00);
     bus::read(3, image, 0x01);
     bus::read(3, image, 0x05);
@@ -26,12 +26,14 @@ fn read_back(image: &[u8]) {
     bus::read(3, image, 0x90);
 }
 
-// Its two writes, and a third: of 7Fh all but bit 5 is stored.
+// Its two writes, and a third: of 7Fh all but bit 5 is stored. What the first left is read back from a copy, so that the next two show what a write
+// changes and not what a read did.
 fn worked_example() {
     let mut old = example();
     let mut new = example();
     bus::write(3, &mut old, &mut new, 0x00, 0xC1);
-    read_back(&new);
+    let mut shown = new;
+    read_back(&mut shown);
     bus::write(3, &mut old, &mut new, 0x00, 0x21);
     bus::write(3, &mut old, &mut new, 0x00, 0x7F);
 }

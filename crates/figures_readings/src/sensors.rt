@@ -1,6 +1,8 @@
 // Temperatures that an image holds, with the addresses of their two bytes: `temperature chip C at HH LL bytes HHLL steps N`.
 use figures_printing::FILL;
-use images::ByteRead;
+use states::ByteRead;
+use watch::Behaviour;
+use watch::Watch;
 ghost use Prim.Native.Nat.{_<_};
 ghost use mathlib.Core.Path.{_≡_};
 ghost use Rattle.pages.specs.Nct7802y as nct7802y;
@@ -38,17 +40,18 @@ fn on_chip() -> Sensor
     }
 }
 
-// Both bytes are read from the image.
-fn held(chip: u8, image: &[u8], sensor: Sensor) {
+// Both bytes are read from the image, with a watch beside it. No sensor's register is a status register: the reads change neither.
+fn held(chip: u8, image: &mut [u8], sensor: Sensor) {
     figures_printing::labelled(b"temperature chip ", chip as u64);
     figures_printing::text(b" at ");
     figures_printing::byte(sensor.high);
     figures_printing::space();
     figures_printing::byte(sensor.low);
-    let ByteRead::Byte(high) = images::read(chip, image, sensor.high) else {
+    let watch = Watch::new(Behaviour::Default);
+    let ByteRead::Byte(high, next) = states::read(chip, image, sensor.high, watch) else {
         return;
     };
-    let ByteRead::Byte(low) = images::read(chip, image, sensor.low) else {
+    let ByteRead::Byte(low, _) = states::read(chip, image, sensor.low, next) else {
         return;
     };
     crate::bytes(high, low);
@@ -63,16 +66,16 @@ fn remote_diodes(rtd1: u8, rtd2: u8, rtd3: u8, low: u8) {
     image[0x02] = rtd2;
     image[0x03] = rtd3;
     image[0x05] = low;
-    held(1, &image, remote_diode(0));
-    held(1, &image, remote_diode(1));
-    held(1, &image, remote_diode(2));
+    held(1, &mut image, remote_diode(0));
+    held(1, &mut image, remote_diode(1));
+    held(1, &mut image, remote_diode(2));
 }
 
 fn nct80(high: u8, low: u8) {
     let mut image = [FILL; 256];
     image[0x27] = high;
     image[0x06] = low;
-    held(3, &image, on_chip());
+    held(3, &mut image, on_chip());
 }
 
 // The low bits that do not count are ones: E7A0h of the rules paper and 1.125 and -127.875 degrees of the data sheet; 7D00h, C900h, FFF0h.

@@ -72,6 +72,6 @@ position chip image address = standsIn (banksOf chip) (selected chip image) addr
 abbrev pub written : Chip → ℕ → ℕ → List ℕ → List ℕ
 written chip address byte image = landed chip (position chip image address) byte image
 
--- .. and a read
+-- .. and the byte that a read gives
 abbrev pub seen : Chip → ℕ → List ℕ → ℕ
 seen chip address image = getD image (position chip image address) 0

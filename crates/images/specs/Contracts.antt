@@ -7,20 +7,15 @@ use lib.ListN.{length}
 use Rattle.refusal.specs.declared.Outcome.{Outcome}
 use Rattle.refusal.specs.Refusals.{numberOf}
 use Rattle.refusal.specs.Answers.{tells}
-use Rattle.refusal.specs.Checks.{Check, first, told, left}
+use Rattle.refusal.specs.Checks.{Check, first, left}
+use Rattle.pages.specs.declared.Chip.{Chip}
 use Rattle.pages.specs.declared.Register.{Register}
 use Rattle.pages.specs.Cards.{chipOf, chipNumber, whenKnown, unknown, notOfSize, powerOn}
+use Rattle.images.specs.declared.Access.{Access}
 use Rattle.images.specs.declared.Admitted.{Admitted}
 use Rattle.images.specs.declared.Admitted.the-variants.{Known, Refused}
-use Rattle.images.specs.declared.ByteRead.{ByteRead}
-use Rattle.images.specs.declared.ByteRead.the-variants as byteRead
-use Rattle.images.specs.Bytes.{storedAt, written, seen}
+use Rattle.images.specs.Bytes.{storedAt, position, written, seen}
 use Rattle.images.specs.Images.{admitted}
-
--- the paper's number and the byte of an answer
-abbrev pub tellsByte : ByteRead → ℕ × ℕ
-tellsByte (byteRead.Byte b) = (0, b)
-tellsByte (byteRead.Refused r) = (numberOf r, 0)
 
 -- "Byte writes, reads and resets check 3 and 8": of a number and a length ..
 abbrev pub sizeChecks : ℕ → ℕ → List Check
@@ -48,9 +43,9 @@ pub record WritesByte (chip : ℕ) (old : List ℕ) (address byte : ℕ) (r : Ou
   pub answer : tells r ≡ first (imageChecks chip old)
   pub bytes : new ≡ left (imageChecks chip old) (whenKnown (chipOf chip) (λ c. written c address byte old) old) old
 
--- what `images::read` promises. The image is only read, so it holds what it held.
-pub record ReadsByte (chip : ℕ) (image : List ℕ) (address : ℕ) (r : ByteRead) : Type 0 where
-  pub answer : tellsByte r ≡ told (imageChecks chip image) (whenKnown (chipOf chip) (λ c. seen c address image) 0)
+-- what `images::look` promises
+pub record Looks (chip : Chip) (image : List ℕ) (address : ℕ) (r : Access) : Type 0 where
+  pub answer : r ≡ record { position = position chip image address; byte = seen chip address image }
 
 -- what `images::reset` promises
 pub record Resets (chip : ℕ) (old : List ℕ) (r : Outcome) (new : List ℕ) : Type 0 where

@@ -6,9 +6,9 @@ use pages::Masks;
 use pages::Register;
 ghost use mathlib.Core.Path.{_≡_};
 ghost use lib.ListN.{getD};
-ghost use Rattle.images.specs.Bytes.{initialized, landed, selected, position, written, seen};
+ghost use Rattle.images.specs.Bytes.{initialized, landed, selected, position, written};
 
-fn byte_at(image: &[u8], at: usize) -> u8
+pub(crate) fn byte_at(image: &[u8], at: usize) -> u8
     ensures { λ r. ⌜ r ≡ getD (now (image .entry)) at 0 ⌝ }
 {
     if at < image.len() {
@@ -27,7 +27,7 @@ fn selected(chip: Chip, image: &[u8]) -> u8
 }
 
 // The position of the image that an address is.
-fn position(chip: Chip, image: &[u8], address: u8) -> usize
+pub(crate) fn position(chip: Chip, image: &[u8], address: u8) -> usize
     ensures { λ r. ⌜ r ≡ position chip (now (image .entry)) address ⌝ }
 {
     cards::position_of(chip, selected(chip, image), address)
@@ -70,10 +70,4 @@ pub(crate) fn store(chip: Chip, image: &mut [u8], address: u8, byte: u8)
 {
     let at = position(chip, image, address);
     land(chip, image, at, byte);
-}
-
-pub(crate) fn load(chip: Chip, image: &[u8], address: u8) -> u8
-    ensures { λ r. ⌜ r ≡ seen chip address (now (image .entry)) ⌝ }
-{
-    byte_at(image, position(chip, image, address))
 }

@@ -1,4 +1,4 @@
-// A register image of a chip, lent by the caller: written, read and reset.
+// A register image of a chip, lent by the caller: written, looked at and reset.
 mod bus;
 mod bytes;
 
@@ -14,7 +14,7 @@ ghost use lib.ListN.{length, take};
 ghost use Rattle.pages.specs.Rows.{column};
 ghost use Rattle.pages.specs.Sheets.{greatest};
 ghost use Rattle.pages.specs.Cards.{rowOf};
-ghost use Rattle.images.specs.Contracts.{Admits, Places, WritesByte, ReadsByte, Resets};
+ghost use Rattle.images.specs.Contracts.{Admits, Places, WritesByte, Looks, Resets};
 
 // The chip that an image is asked of.
 pub enum Admitted {
@@ -22,9 +22,10 @@ pub enum Admitted {
     Refused(Refusal),
 }
 
-pub enum ByteRead {
-    Byte(u8),
-    Refused(Refusal),
+// An access on the bus: the position where it lands, and the byte that stands there.
+pub struct Access {
+    pub position: usize,
+    pub byte: u8,
 }
 
 // The chip of a number, where an image of that length can be its.
@@ -67,13 +68,14 @@ pub fn write(chip: u8, image: &mut [u8], address: u8, byte: u8) -> Outcome
     }
 }
 
-// The byte at an address of the image.
-pub fn read(chip: u8, image: &[u8], address: u8) -> ByteRead
-    ensures { λ r. ⌜ ReadsByte chip (now (image .entry)) address r ⌝ }
+// Where an access to an address lands, and what a read would give: 0 behind the image's end. What a read changes is told by `states::read`.
+pub fn look(chip: Chip, image: &[u8], address: u8) -> Access
+    ensures { λ r. ⌜ Looks chip (now (image .entry)) address r ⌝ }
 {
-    match admit(chip, image.len()) {
-        Admitted::Refused(refusal) => ByteRead::Refused(refusal),
-        Admitted::Known(known) => ByteRead::Byte(bus::load(known, image, address)),
+    let position = bus::position(chip, image, address);
+    Access {
+        position,
+        byte: bus::byte_at(image, position),
     }
 }
 

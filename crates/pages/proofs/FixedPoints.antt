@@ -1,12 +1,12 @@
 -- "Fixed points for review", as one list under one claim: each card has the rows that the rules paper names, each image its bytes, and each page the
--- bits with effects that the requests name.
+-- bits with effects, the status registers and the channels that the requests name.
 -- Assumes nothing.
 use Prim.Native.Nat.{ℕ, _*_, _^_}
 use mathlib.Core.Path.{refl}
 use mathlib.Core.Bool.{Bool, So, true, _&&_}
 use mathlib.Core.List.{List, [], _∷_, _++_}
 use lib.Dec.{eqb}
-use lib.ListN.{length}
+use lib.ListN.{length, getD}
 use Rattle.pages.specs.declared.Chip.{Chip}
 use Rattle.pages.specs.declared.Chip.the-variants.{Nct7802y, F75373s, Nct80, Nct7904d, W83793g}
 use Rattle.pages.specs.Rows.{Table}
@@ -41,6 +41,10 @@ power chip address = rowOf chip address .power
 -- how many registers have effects
 abbrev acting : Chip → ℕ
 acting chip = length (sheetOf chip .effects)
+
+-- how many registers tell a status
+abbrev telling : Chip → ℕ
+telling chip = length (sheetOf chip .status)
 
 -- some registers have a mask
 abbrev masks : Chip → ℕ → List ℕ → List Point
@@ -79,6 +83,12 @@ points =
     -- "bit 7 of NCT80 register 00h", "Bit 5 of the same register"; no other register, and no other chip
     ∷ (effectsOf Nct80 0x00 .initialize, 2 ^ 7) ∷ (effectsOf Nct80 0x00 .fleeting, 2 ^ 5) ∷ (acting Nct80, 1)
     ∷ (acting Nct7802y, 0) ∷ (acting F75373s, 0) ∷ (acting Nct7904d, 0) ∷ (acting W83793g, 0)
+    -- "status registers 01h and 02h of the NCT80", and none of another chip
+    ∷ (telling Nct80, 2) ∷ (getD (sheetOf Nct80 .status) 0 0, 0x01) ∷ (getD (sheetOf Nct80 .status) 1 0, 0x02)
+    ∷ (telling Nct7802y, 0) ∷ (telling F75373s, 0) ∷ (telling Nct7904d, 0) ∷ (telling W83793g, 0)
+    -- "limits alternate from 2Ah: IN0 high, IN0 low, IN1 high", to 37h; "high bytes only, at 20h to 26h"
+    ∷ (nct80.highLimitAt 0, 0x2A) ∷ (nct80.lowLimitAt 0, 0x2B) ∷ (nct80.highLimitAt 1, 0x2C) ∷ (nct80.lowLimitAt 6, 0x37)
+    ∷ (nct80.readingAt 0, 0x20) ∷ (nct80.readingAt 6, 0x26)
     -- "All fan table registers have mask FFh"; of chip 5 temperatures have bits "6-0" and duties bits "5-0", by source document 001
     ∷ tableMasks Nct7802y 0xFF 0xFF (tablesOf Nct7802y)
     ++ (tableMasks F75373s 0xFF 0xFF (tablesOf F75373s)

@@ -99,6 +99,10 @@ resting sheet bits position = taking sheet bits position && eqb (bitAnd (rowIn (
 abbrev pub effective : Sheet → ℕ × Effects → Bool
 effective sheet l = resting sheet (l .1 .initialize) (l .0) && resting sheet (l .1 .fleeting) (l .0)
 
+-- a status register can't be written
+abbrev pub reporting : Sheet → ℕ → Bool
+reporting sheet position = eqb (rowIn (sheet .card) position .writable) 0 && eqb (rowIn (sheet .card) position .clears) 0
+
 -- what a speed's register takes: of a slope the full duty, and nothing above it
 abbrev pub reaches : Shape → ℕ → Bool
 reaches (Slope points full) mask = eqb mask full
@@ -206,6 +210,7 @@ tests sheet =
     ∷ every (inStretches (sheet .card)) (sheet .tables)
     ∷ every pointed (sheet .tables)
     ∷ every (effective sheet) (sheet .effects)
+    ∷ every (reporting sheet) (sheet .status)
     ∷ []
 
 unfoldable pub sound : Sheet → Bool
@@ -239,9 +244,10 @@ pub record Sound (sheet : Sheet) : Type 0 where
   -- a plan has room for the points of every table
   pub points : So (every pointed (sheet .tables))
   pub effects : So (every (effective sheet) (sheet .effects))
+  pub status : So (every (reporting sheet) (sheet .status))
 
 module _ (sheet : Sheet) (t : So (sound sheet)) where
-  part : (k : ℕ) → k < 19 → So (getD (tests sheet) k true)
+  part : (k : ℕ) → k < 20 → So (getD (tests sheet) k true)
   unfolding sound
   part k h = of-every (λ test. test) (tests sheet) true t k h
 
@@ -267,6 +273,7 @@ module _ (sheet : Sheet) (t : So (sound sheet)) where
         stretches = part 16 (omega arith);
         points = part 17 (omega arith);
         effects = part 18 (omega arith);
+        status = part 19 (omega arith);
       }
 
 -- the only law that goes by the chip

@@ -14,7 +14,7 @@ use Rattle.pages.specs.declared.Register.{Register}
 use Rattle.pages.specs.declared.Required.{Required}
 use Rattle.pages.specs.declared.Selector.{Selector}
 use Rattle.pages.specs.declared.Sizes.{Sizes}
-use Rattle.pages.specs.Contracts.{GoesWith, Names, Finds, Acts, PowersOn, TellsSizes, Requires, Lays, LaysOut, Stands, Selects, Positions, StandsInOneRow, StandsAt}
+use Rattle.pages.specs.Contracts.{GoesWith, Names, Finds, Acts, Reports, PowersOn, TellsSizes, Requires, Lays, LaysOut, Stands, Selects, Positions, StandsInOneRow, StandsAt}
 
 pub names-unique : {number : ℕ} {r s : Named} → Names number r → Names number s → r ≡ s
 names-unique p q = p .answer ∙ sym (q .answer)
@@ -24,6 +24,9 @@ finds-unique p q = p .answer ∙ sym (q .answer)
 
 pub acts-unique : {chip : Chip} {position : ℕ} {r s : Effects} → Acts chip position r → Acts chip position s → r ≡ s
 acts-unique p q = p .answer ∙ sym (q .answer)
+
+pub reports-unique : {chip : Chip} {position : ℕ} {r s : Bool} → Reports chip position r → Reports chip position s → r ≡ s
+reports-unique p q = p .answer ∙ sym (q .answer)
 
 pub powers-on-unique : {chip : Chip} {position r s : ℕ} → PowersOn chip position r → PowersOn chip position s → r ≡ s
 powers-on-unique p q = p .answer ∙ sym (q .answer)

@@ -16,7 +16,7 @@ use Rattle.pages.specs.declared.Fan.{Fan}
 use Rattle.pages.specs.declared.Fan.the-variants.{Laid, Nothing}
 use Rattle.pages.specs.declared.Layout.{Layout}
 use Rattle.pages.specs.declared.Ground.{Ground}
-use Rattle.pages.specs.Banks.{Banks, oneBank}
+use Rattle.pages.specs.Banks.{Banks, oneBank, among}
 use Rattle.pages.specs.Rows.{Line, Row, Table, rowIn, effectsIn}
 use Rattle.pages.specs.Sheets.{Sheet, powerOnIn, missing, hasTableIn, tableIn, layout, groundIn}
 use Rattle.pages.specs.Nct7802y as nct7802y
@@ -73,6 +73,10 @@ rowOf chip position = rowIn (cardOf chip) position
 -- the bits of a register that do more than stand there
 unfoldable pub effectsOf : Chip → ℕ → Effects
 effectsOf chip position = effectsIn (sheetOf chip .effects) position
+
+-- whether a position is that of a status register
+unfoldable pub isStatus : Chip → ℕ → Bool
+isStatus chip position = among (sheetOf chip .status) position
 
 -- "a table value is its register's writable bits, all other bits counting as zero"
 abbrev pub worth : Chip → List ℕ → ℕ → ℕ

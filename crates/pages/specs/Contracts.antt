@@ -17,7 +17,7 @@ use Rattle.pages.specs.declared.Layout.{Layout}
 use Rattle.pages.specs.Banks.{standsIn}
 use Rattle.pages.specs.Rows.{masksIn, requiredIn, inOneRow, standsAt}
 use Rattle.pages.specs.Sheets.{sizesIn, laidIn, goesWith, selectorIn}
-use Rattle.pages.specs.Cards.{sheetOf, chipOf, banksOf, rowOf, effectsOf, layoutOf, groundOf}
+use Rattle.pages.specs.Cards.{sheetOf, chipOf, banksOf, rowOf, effectsOf, isStatus, layoutOf, groundOf}
 
 -- what `cards::chip_of` promises
 pub record Names (number : ℕ) (named : Named) : Type 0 where
@@ -30,6 +30,10 @@ pub record Finds (chip : Chip) (position : ℕ) (masks : Masks) : Type 0 where
 -- what `cards::effects_of` and `effects` of a chip promise
 pub record Acts (chip : Chip) (position : ℕ) (effects : Effects) : Type 0 where
   pub answer : effects ≡ effectsOf chip position
+
+-- what `cards::is_status` promises
+pub record Reports (chip : Chip) (position : ℕ) (r : Bool) : Type 0 where
+  pub answer : r ≡ isStatus chip position
 
 -- what `cards::power_on_of` and `power` of a chip promise
 pub record PowersOn (chip : Chip) (position byte : ℕ) : Type 0 where

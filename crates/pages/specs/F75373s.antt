@@ -123,4 +123,4 @@ abbrev pub tables : List Table
 tables = table 0xA0 ∷ table 0xB0 ∷ []
 
 abbrev pub sheet : Sheet
-sheet = record { number = 2; size = 256; banks = oneBank; card = card; effects = []; identity = identity; tables = tables; temperatures = [] }
+sheet = record { number = 2; size = 256; banks = oneBank; card = card; effects = []; status = []; identity = identity; tables = tables; temperatures = [] }

@@ -195,4 +195,4 @@ abbrev pub tables : List Table
 tables = table 0x80 ∷ table 0x90 ∷ table 0xA0 ∷ []
 
 abbrev pub sheet : Sheet
-sheet = record { number = 1; size = 256; banks = oneBank; card = card; effects = []; identity = identity; tables = tables; temperatures = temperature ∷ [] }
+sheet = record { number = 1; size = 256; banks = oneBank; card = card; effects = []; status = []; identity = identity; tables = tables; temperatures = temperature ∷ [] }

@@ -65,4 +65,4 @@ tables =
     ∷ []
 
 abbrev pub sheet : Sheet
-sheet = record { number = 4; size = 1280; banks = banks; card = card; effects = []; identity = identity; tables = tables; temperatures = temperatures }
+sheet = record { number = 4; size = 1280; banks = banks; card = card; effects = []; status = []; identity = identity; tables = tables; temperatures = temperatures }

@@ -47,6 +47,8 @@ pub record Sheet : Type 0 where
   pub card : List Line
   -- the registers with bits that do more than stand there
   pub effects : List (ℕ × Effects)
+  -- the status registers: a read clears the one that it reads, and is the acknowledge
+  pub status : List ℕ
   -- every register that counts; where there is none, nothing is confirmed
   pub identity : List Required
   -- the fan tables, with the numbers from 1 on
@@ -56,7 +58,7 @@ pub record Sheet : Type 0 where
 
 -- what is counted of a chip
 abbrev pub sizesIn : Sheet → Sizes
-sizesIn sheet = record { image = sheet .size; identity = length (sheet .identity) }
+sizesIn sheet = record { image = sheet .size; identity = length (sheet .identity); status = length (sheet .status) }
 
 -- "Reset fills the image with the power-on column."
 unfoldable pub powerOnIn : Sheet → List ℕ

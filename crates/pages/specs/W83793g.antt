@@ -45,4 +45,4 @@ abbrev pub tables : List Table
 tables = table 0x230 ∷ table 0x240 ∷ table 0x250 ∷ table 0x260 ∷ table 0x270 ∷ table 0x280 ∷ []
 
 abbrev pub sheet : Sheet
-sheet = record { number = 5; size = 768; banks = banks; card = card; effects = []; identity = identity; tables = tables; temperatures = [] }
+sheet = record { number = 5; size = 768; banks = banks; card = card; effects = []; status = []; identity = identity; tables = tables; temperatures = [] }

@@ -56,10 +56,11 @@ pub struct Selector {
     pub bits: u8,
 }
 
-// How many bytes a chip's image has, and how many registers its identity looks at.
+// How many bytes a chip's image has, how many registers its identity looks at, and how many tell a status.
 pub struct Sizes {
     pub image: usize,
     pub identity: usize,
+    pub status: usize,
 }
 
 // A register that identity looks at: the bits that count, and what these hold, one value or the other; both are the same where there is one only.

@@ -19,23 +19,10 @@ use Rattle.pages.specs.Nct80 as nct80
 use Rattle.pages.specs.Nct7904d as nct7904d
 use Rattle.pages.proofs.Every.{both, of-every, distinct, apart}
 use Rattle.readings.specs.Readings.{isWidth, fits, stepsPerDegree, degreesOf, lowCount, stepsFrom, bytesFrom, bitsFrom}
-use Rattle.readings.specs.Sensors.{highAt, temperatureIn}
+use Rattle.readings.specs.Sensors.{highAt, temperatureIn, ignored, replaced, withTemperature}
 use Rattle.readings.proofs.Widths.{bounds}
 use Rattle.readings.proofs.Replaced.{under-mask, outside-mask}
 use Rattle.readings.proofs.Aligned.{round-trip-from}
-
--- the bits of a byte that do not count
-abbrev pub ignored : ℕ → ℕ → ℕ
-ignored bits byte = bitAnd byte (2 ^ 8 - 1 - bits)
-
--- a byte whose bits that count are replaced
-abbrev pub replaced : ℕ → ℕ → ℕ → ℕ
-replaced bits old new = bitAnd new bits + ignored bits old
-
--- an image in which a sensor's temperature is stored
-abbrev pub withTemperature : Reading → ℕ → ℤ → List ℕ → List ℕ
-withTemperature t sensor steps image =
-    set (set image (highAt t sensor) (bytesFrom (t .width) (t .unit) steps .0)) (t .low) (replaced (t .bits) (getD image (t .low) 0) (bytesFrom (t .width) (t .unit) steps .1))
 
 -- what it holds
 pub record Stored (t : Reading) (sensor : ℕ) (steps : ℤ) (old new : List ℕ) : Type 0 where

@@ -1,0 +1,4 @@
+pub mod Reading
+pub mod Answers
+pub mod Laws
+pub mod Unique
