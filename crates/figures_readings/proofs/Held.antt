@@ -122,9 +122,9 @@ module _ {number : ℕ} (chip : Chip) (named : chipOf number ≡ Known chip) {im
       → ((address : ℕ) → position chip image address ≡ address)
       → ReadsByte number image (highAt t sensor) watch (Byte high next) between → ReadsByte number between (t .low) next (Byte low last) after
       → ReadsByte number image (t .low) watch (Byte low last) after × ((after ≡ image) × (last ≡ watch))
-  read-in-turn {low = low} {after = after} {last = last} passed there lands at-high at-low =
+  read-in-turn {low = low} {after = after} {watch = watch} {last = last} passed there landing at-high at-low =
       let quiet : (k : ℕ) → k < length (t .low ∷ t .high) → isStatus chip (getD (t .low ∷ t .high) k 0) ≡ false = λ k h. not-true _ (of-every (λ address. not (isStatus chip address)) (t .low ∷ t .high) 0 passed k h) in
-      let first-left = read-leaves chip named (lands (highAt t sensor)) at-high (quiet (suc sensor) (omega arith)) in
+      let first-left = read-leaves chip named (landing (highAt t sensor)) at-high (quiet (suc sensor) (omega arith)) in
       let same = ap₂ (λ (i : List ℕ) (w : Watch). ReadsByte number i (t .low) w (Byte low last) after) (first-left .0) (first-left .1) in
-      let at-low = subst (λ (T : Type 0). T) same at-low in
-      (at-low, read-leaves chip named (lands (t .low)) at-low (quiet 0 (omega arith)))
+      let again : ReadsByte number image (t .low) watch (Byte low last) after = subst (λ (T : Type 0). T) same at-low in
+      (again, read-leaves chip named (landing (t .low)) again (quiet 0 (omega arith)))

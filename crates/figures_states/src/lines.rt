@@ -1,5 +1,6 @@
 // A call on a state as a line: `state sample N words WWWW .. RESULT`, `state chip C read AA byte BB RESULT`, `state chip C reset RESULT`,
-// `state chip C write AA BB RESULT`. The result is `changed`, each position that has changed and its byte, and both facts of the watch that the call left.
+// `state chip C write AA BB RESULT`. The result is `changed`, each position that has changed and its byte, and both facts of the watch that the call
+// left. A refused call has `refused R` before it, and no byte.
 use refusal::Outcome;
 use refusal::Refusal;
 use states::ByteRead;
@@ -29,7 +30,7 @@ pub fn begin(behaviour: Behaviour, hot: bool, pending: bool) -> Watch {
     }
 }
 
-// What an image holds before a call.
+// What an image holds before a call: the call's changes are seen beside it.
 fn held(image: &[u8]) -> [u8; LONGEST] {
     let mut old = [0u8; LONGEST];
     for at in 0..image.len() {
@@ -91,14 +92,14 @@ pub fn samples(image: &mut [u8], before: Watch, steps: &[i16], words: [u16; VOLT
     watch
 }
 
-fn access(chip: u8, name: &[u8], address: u8) {
+fn call(chip: u8, name: &[u8]) {
     figures_printing::labelled(b"state chip ", chip as u64);
     figures_printing::text(name);
-    figures_printing::byte(address);
 }
 
-fn read(chip: u8, image: &mut [u8], address: u8, watch: Watch) -> Watch {
-    access(chip, b" read ", address);
+pub fn read(chip: u8, image: &mut [u8], address: u8, watch: Watch) -> Watch {
+    call(chip, b" read ");
+    figures_printing::byte(address);
     let old = held(image);
     match states::read(chip, image, address, watch) {
         ByteRead::Refused(r, same) => refused(r, &old, image, same),
@@ -120,8 +121,7 @@ pub fn reads(chip: u8, image: &mut [u8], addresses: &[u8], before: Watch) -> Wat
 }
 
 pub fn reset(chip: u8, image: &mut [u8], watch: Watch) -> Watch {
-    figures_printing::labelled(b"state chip ", chip as u64);
-    figures_printing::text(b" reset");
+    call(chip, b" reset");
     let old = held(image);
     match states::reset(chip, image, watch) {
         ChipReset::Refused(r, same) => refused(r, &old, image, same),
@@ -131,7 +131,8 @@ pub fn reset(chip: u8, image: &mut [u8], watch: Watch) -> Watch {
 
 // A write has no watch: its facts are those kept beside.
 pub fn write(chip: u8, image: &mut [u8], address: u8, byte: u8, watch: Watch) -> Watch {
-    access(chip, b" write ", address);
+    call(chip, b" write ");
+    figures_printing::byte(address);
     figures_printing::space();
     figures_printing::byte(byte);
     let old = held(image);

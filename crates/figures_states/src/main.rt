@@ -68,14 +68,11 @@ fn worked_example(image: &mut [u8], behaviour: Behaviour) {
     lines::reset(3, image, watch);
 }
 
-fn hear(image: &mut [u8], watch: Watch, n: u8, word: u16) -> Watch {
-    sample_one(image, watch, 0, 0x8000, n, word)
-}
-
+// A sample in which a voltage is within its limits, one in which it is not, and what 01h then tells.
 fn cross(image: &mut [u8], watch: Watch, n: u8, inside: u16, beyond: u16) -> Watch {
-    let mut next = hear(image, watch, n, inside);
-    next = hear(image, next, n, beyond);
-    lines::reads(3, image, &[0x01], next)
+    let mut next = sample_one(image, watch, 0, 0x8000, n, inside);
+    next = sample_one(image, next, 0, 0x8000, n, beyond);
+    lines::read(3, image, 0x01, next)
 }
 
 // A voltage exactly at its high limit, with the bits that do not count as ones too, and a code above it; exactly at its low limit, and a code below it.
@@ -83,7 +80,7 @@ fn one_input(image: &mut [u8], n: u8) {
     put(image, 0x2A + 2 * (n % 7), 0x80);
     put(image, 0x2B + 2 * (n % 7), 0x40);
     let mut watch = lines::begin(Behaviour::Default, false, false);
-    watch = hear(image, watch, n, 0x8000);
+    watch = lines::sample(image, watch, 0, [0x8000; VOLTAGES]);
     watch = cross(image, watch, n, 0x803F, 0x8040);
     cross(image, watch, n, 0x4000, 0x3FFF);
 }
@@ -117,9 +114,10 @@ fn channels() {
     disabled(&mut [0u8; 256], 0x00, 1, 0x0040);
 }
 
+// A temperature, and what 02h then tells.
 fn sample_and_read(image: &mut [u8], watch: Watch, steps: i16) -> Watch {
     let next = lines::sample(image, watch, steps, [0x0000; VOLTAGES]);
-    lines::reads(3, image, &[0x02], next)
+    lines::read(3, image, 0x02, next)
 }
 
 // Limits below zero: -10 and -15 degrees for the watch, -10 for the OS bit. Exactly at a limit nothing changes.
@@ -145,7 +143,7 @@ fn reads_of(chip: u8, image: &mut [u8], addresses: &[u8]) {
     lines::reads(chip, image, addresses, watch);
 }
 
-// Only chip 3 has status registers, and only their own byte is cleared.
+// Only chip 3 has status registers, and a read of one clears its own byte alone. Of chips 4 and 5 FFh selects a bank that the sheets lack.
 fn every_bit_on() {
     reads_of(1, &mut [0xFF; 256], &[0x01, 0x02]);
     reads_of(2, &mut [0xFF; 256], &[0x01, 0x02]);
@@ -163,7 +161,7 @@ fn read_or_reset(reset: bool, chip: u8, image: &mut [u8], watch: Watch) -> Watch
     if reset {
         return lines::reset(chip, image, watch);
     }
-    lines::reads(chip, image, &[0x01], watch)
+    lines::read(chip, image, 0x01, watch)
 }
 
 // Of no chip, and of images that are not the chip's.
@@ -177,27 +175,19 @@ fn refused(reset: bool, before: Watch) -> Watch {
     read_or_reset(reset, 4, &mut [FILL; 256], watch)
 }
 
-fn full(image: &mut [u8], watch: Watch, steps: &[i16]) -> Watch {
-    lines::samples(image, watch, steps, [0xFFFF; VOLTAGES])
-}
-
-// The length is checked before the steps, and the steps also where every channel is disabled.
-fn refused_samples(before: Watch) {
-    let mut watch = full(&mut [FILL; 0], before, &[0]);
-    watch = full(&mut [FILL; 255], watch, &[0]);
-    watch = full(&mut [FILL; 257], watch, &[0]);
-    watch = full(&mut [FILL; 255], watch, &[2048]);
-    let mut image = [FILL; 256];
-    image[0x08] = 0xFF;
-    full(&mut image, watch, &[2048, -2049, 32767, -32768]);
-}
-
-// A refused call changes no byte and no fact: the watch is the same throughout.
-fn refusals() {
+// A refused call changes no byte and no fact: the watch is the same throughout. Of a sample the length is checked before the steps, and the steps also
+// where every channel is disabled.
+fn refusals(image: &mut [u8]) {
+    let words = [0xFFFF; VOLTAGES];
     let mut watch = lines::begin(Behaviour::Default, true, true);
     watch = refused(false, watch);
     watch = refused(true, watch);
-    refused_samples(watch);
+    watch = lines::sample(&mut [FILL; 0], watch, 0, words);
+    watch = lines::sample(&mut [FILL; 255], watch, 0, words);
+    watch = lines::sample(&mut [FILL; 257], watch, 0, words);
+    watch = lines::sample(&mut [FILL; 255], watch, 2048, words);
+    put(image, 0x08, 0xFF);
+    lines::samples(image, watch, &[2048, -2049, 32767, -32768], words);
 }
 
 // A power-on image, of chip 3 with a byte at 01h.
@@ -209,7 +199,7 @@ fn power_on(chip: u8, image: &mut [u8]) {
     put(image, 0x01, 0x7F);
 }
 
-// Another chip carries the watch unchanged.
+// A reset turns both facts off and keeps the behaviour; another chip than 3 carries the watch unchanged.
 fn reset(chip: u8, image: &mut [u8], behaviour: Behaviour) {
     power_on(chip, image);
     let watch = lines::begin(behaviour, true, true);
@@ -255,7 +245,7 @@ fn main() {
     below_zero(&mut limits(0xF6, 0xF1, 0xF6), Behaviour::Comparator);
     to_the_ends(&mut [FILL; 256]);
     every_bit_on();
-    refusals();
+    refusals(&mut [FILL; 256]);
     resets();
     writes(&mut example());
     masked(&mut example());
