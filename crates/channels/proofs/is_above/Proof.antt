@@ -1,7 +1,7 @@
 -- `channels::is_above` meets its contract: 16 times a degree of 8 bits is a number of 12 bits, so the product of 16 bits is exact.
 -- Assumes nothing.
 use mir.Facts.{toZ-ofZ, sfits-widen}
-use Rattle.channels.proofs.Limits.{product-fits}
+use Rattle.watch.proofs.Products.{product-fits}
 use Rattle.channels.proofs.is_above.Statement.{statement}
 use Rattle.channels.proofs.is_above.Tie as tie
 
