@@ -9,7 +9,7 @@ use mathlib.Core.List.{List, [], _∷_, _++_}
 use borrow.Author.Tests.{eqb-true, lt-ltb}
 use lib.Bits.{bitAnd, and-zero-l}
 use lib.Dec.{eqb, ltb}
-use lib.ListN.{length, getD, set}
+use lib.ListN.{length, getD}
 use lib.Seq.{getD-set-same, getD-set-other}
 use Rattle.refusal.specs.Checks.{Check, first, left}
 use Rattle.pages.specs.declared.Chip.{Chip}
@@ -20,19 +20,19 @@ use Rattle.pages.specs.Banks.{among}
 use Rattle.pages.specs.Rows.{every}
 use Rattle.pages.specs.Cards.{sheetOf, chipOf, whenKnown, rowOf, isStatus, powerOn}
 use Rattle.pages.proofs.Every.{both}
-use Rattle.pages.proofs.Sound.{fixed, reporting, sound-sheet}
+use Rattle.pages.proofs.Sound.{reporting, sound-sheet}
 use Rattle.images.specs.Bytes.{position, written, seen}
 use Rattle.images.specs.Contracts.{imageChecks}
 use Rattle.images.proofs.Kept.{landed-keeps}
 use Rattle.images.proofs.Landing.{lands-plain}
 use Rattle.watch.specs.declared.Watch.{Watch}
-use Rattle.watch.specs.Alarm.{fresh, acknowledged}
+use Rattle.watch.specs.Alarm.{fresh}
 use Rattle.channels.specs.Channels.{State, isOn, sampled}
 use Rattle.channels.specs.Contracts.{channelChecks}
 use Rattle.channels.proofs.Laws.{On, sampled-keeps}
-use Rattle.states.specs.States.{afterRead, rested, afterReset}
+use Rattle.states.specs.States.{afterRead, afterReset}
 use Rattle.states.specs.Contracts.{leftOf}
-use Rattle.states.specs.Runs.{Event, sample, read, write, reset, unlessRefused, afterWrite, onChip, after, run, Called, CalledInTurn}
+use Rattle.states.specs.Runs.{Event, sample, read, write, reset, unlessRefused, afterWrite, after, run, Called, CalledInTurn}
 use Rattle.states.proofs.Reading.{read-plain, read-status}
 
 -- a state by its parts

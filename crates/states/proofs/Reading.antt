@@ -3,7 +3,6 @@
 use Prim.Native.Nat.{ℕ}
 use mathlib.Core.Path.{_≡_, ap}
 use mathlib.Core.Bool.{Bool, true, false, cond}
-use mathlib.Core.List.{List}
 use lib.ListN.{set}
 use Rattle.pages.specs.declared.Chip.{Chip}
 use Rattle.pages.specs.Cards.{isStatus}

@@ -1,7 +1,6 @@
 -- `channels::store_temperature` meets its contract: the word's bits from 4 on and its lowest four are the two bytes, and a sum of bits under two masks that share none is a byte.
 -- Assumes nothing.
 use Prim.Native.Nat.{ℕ, _*_, _/_, _%_}
-use native.Mathlib.Omega.{arith}
 use mathlib.Core.Path.{_≡_, refl, ap}
 use lib.ListN.{getD, set}
 use mir.Facts.{toZ-ofZ}
