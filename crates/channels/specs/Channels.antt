@@ -59,7 +59,7 @@ abbrev pub aboveOs : ℤ → List ℕ → Bool
 aboveOs steps image = ltZ (inSteps (limitIn osLimit image)) steps
 
 -- The temperature of a sample: "It stores the temperature at 27h and bits 7 to 4 of 06h (bits 3 to 0 of 06h stay)", "02h bit 0 where the watch .. has its
--- output on; 02h bit 5 where the temperature is strictly above 3Ah". Disabled, it stores 0, raises nothing "and does not feed the watch".
+-- output on; 02h bit 5 where the temperature is strictly above 3Ah". Disabled, it stores 0, raises nothing and "does not feed the watch".
 abbrev pub temperatureTaken : ℤ → State → State
 temperatureTaken steps state =
     let watch : Watch = fed steps state in

@@ -112,6 +112,16 @@ pub fn changes(old: &[u8], new: &[u8]) {
     }
 }
 
+// A fact of a watch, by its name.
+pub fn fact(name: &[u8], on: bool) {
+    text(name);
+    if on {
+        text(b" on");
+    } else {
+        text(b" off");
+    }
+}
+
 pub fn refused(r: Refusal) {
     labelled(b" refused ", refusal::number(r) as u64);
 }

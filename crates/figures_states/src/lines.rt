@@ -41,20 +41,11 @@ fn held(image: &[u8]) -> [u8; LONGEST] {
     old
 }
 
-fn fact(name: &[u8], on: bool) {
-    figures_printing::text(name);
-    if on {
-        figures_printing::text(b" on");
-    } else {
-        figures_printing::text(b" off");
-    }
-}
-
 fn result(old: &[u8], image: &[u8], watch: Watch) -> Watch {
     figures_printing::text(b" changed");
     figures_printing::changes(old, image);
-    fact(b" hot", watch.hot);
-    fact(b" pending", watch.pending);
+    figures_printing::fact(b" hot", watch.hot);
+    figures_printing::fact(b" pending", watch.pending);
     figures_printing::line_end();
     watch
 }

@@ -14,19 +14,10 @@ fn begin(watch: Watch) {
     }
 }
 
-fn fact(name: &[u8], on: bool) {
-    figures_printing::text(name);
-    if on {
-        figures_printing::text(b" on");
-    } else {
-        figures_printing::text(b" off");
-    }
-}
-
 fn end(watch: Watch) {
-    fact(b" hot", watch.hot);
-    fact(b" pending", watch.pending);
-    fact(b" output", watch.output());
+    figures_printing::fact(b" hot", watch.hot);
+    figures_printing::fact(b" pending", watch.pending);
+    figures_printing::fact(b" output", watch.output());
     figures_printing::line_end();
 }
 

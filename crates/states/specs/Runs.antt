@@ -10,7 +10,6 @@ use lib.IntN.{ℤ}
 use Rattle.refusal.specs.declared.Outcome.{Outcome}
 use Rattle.refusal.specs.Checks.{Check, first}
 use Rattle.pages.specs.declared.Chip.{Chip}
-use Rattle.pages.specs.Cards.{chipOf, whenKnown}
 use Rattle.images.specs.Bytes.{written}
 use Rattle.images.specs.Contracts.{imageChecks, WritesByte}
 use Rattle.watch.specs.declared.Sampled.{Sampled}
@@ -20,7 +19,7 @@ use Rattle.channels.specs.Contracts.{channelChecks, SamplesChannels}
 use Rattle.states.specs.declared.ByteRead.{ByteRead}
 use Rattle.states.specs.declared.ChipReset.{ChipReset}
 use Rattle.states.specs.States.{afterRead, afterReset}
-use Rattle.states.specs.Contracts.{tellsByte, tellsReset, ReadsByte, ResetsChip}
+use Rattle.states.specs.Contracts.{tellsByte, tellsReset, leftOf, ReadsByte, ResetsChip}
 
 -- what is done to a state: a sample of steps and words, a read of an address, a write of a byte to one, a reset
 pub data Event : Type 0 where
@@ -39,7 +38,7 @@ afterWrite chip address byte state = record { image = written chip address byte 
 
 -- what is done to an image of the chip that a number names; a sample is of chip 3
 abbrev pub onChip : ℕ → (Chip → State → State) → State → State
-onChip chip step state = unlessRefused (imageChecks chip (state .image)) (whenKnown (chipOf chip) (λ c. step c state) state) state
+onChip chip step state = unlessRefused (imageChecks chip (state .image)) (leftOf chip step (state .image) (state .watch)) state
 
 abbrev pub after : ℕ → State → Event → State
 after chip state (sample steps words) = unlessRefused (channelChecks (state .image) steps) (sampled steps words state) state
