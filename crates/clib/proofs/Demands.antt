@@ -105,7 +105,7 @@ demand_1 =
       position_of = λ chip bank address. record { answer = stands_in (banks_of chip) bank address; kept = record { answer = refl } };
       goes_with = λ layout points. record { answer = goes_with layout points; kept = record { answer = refl } };
       one_row = λ first settings speeds masks. record { answer = in_one_row first settings speeds masks; kept = record { answer = refl } };
-      register_at = λ ground k. record { answer = stands_at ground k; kept = record { answer = refl } };
+      register_at = λ stretches k. record { answer = stands_at stretches k; kept = record { answer = refl } };
       admit = λ chip size r p. told_answered 0 chip _ (admits_told p);
       write = λ chip old address byte r new p. (verdict_answered r _ p.answer, left_kept (image_checks chip old) _ p.answer p.bytes);
       place = λ register byte old. record { answer = stored_at register.masks register.position byte old; kept = record { bytes = refl } };

@@ -99,12 +99,12 @@ pub record Demand1 : Type 0 where
   pub table_of : (chip : Chip) (number : ℕ) (r : Fan) → Lays chip number r
       → Answered ((not (has_table chip number), 4) ∷ []) (layout one_bank [] missing) (tells_fan r)
   pub layout_of : (chip : Chip) (number : ℕ) → Given (λ facts. LaysOut chip number facts)
-  pub ground_of : (chip : Chip) (number : ℕ) → Given (λ ground. Stands chip number ground)
+  pub ground_of : (chip : Chip) (number : ℕ) → Given (λ stretches. Stands chip number stretches)
   pub selector_of : (chip : Chip) → Given (λ selector. Selects chip selector)
   pub position_of : (chip : Chip) (bank address : ℕ) → Given (λ position. Positions chip bank address position)
   pub goes_with : (layout : Layout) (points : ℕ) → Given (λ r. GoesWith layout points r)
-  pub one_row : (first settings speeds : ℕ) (masks : Masks) → Given (λ ground. StandsInOneRow first settings speeds masks ground)
-  pub register_at : (ground : Ground) (k : ℕ) → Given (λ register. StandsAt ground k register)
+  pub one_row : (first settings speeds : ℕ) (masks : Masks) → Given (λ stretches. StandsInOneRow first settings speeds masks stretches)
+  pub register_at : (stretches : Ground) (k : ℕ) → Given (λ register. StandsAt stretches k register)
   -- register images
   pub admit : (chip size : ℕ) (r : Admitted) → images.Admits chip size r → Answered (images.size_checks chip size) 0 (images.tells_admitted r)
   pub write : (chip : ℕ) (old : List ℕ) (address byte : ℕ) (r : Outcome) (new : List ℕ) → images.WritesByte chip old address byte r new

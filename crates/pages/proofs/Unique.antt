@@ -56,7 +56,7 @@ pub one_row_unique : {first settings speeds : ℕ} {masks : Masks} {r s : Ground
     → StandsInOneRow first settings speeds masks r → StandsInOneRow first settings speeds masks s → r ≡ s
 one_row_unique p q = p.answer ∙ sym q.answer
 
-pub stands_at_unique : {ground : Ground} {k : ℕ} {r s : Register} → StandsAt ground k r → StandsAt ground k s → r ≡ s
+pub stands_at_unique : {stretches : Ground} {k : ℕ} {r s : Register} → StandsAt stretches k r → StandsAt stretches k s → r ≡ s
 stands_at_unique p q = p.answer ∙ sym q.answer
 
 pub goes_with_unique : {layout : Layout} {points : ℕ} {r s : Bool} → GoesWith layout points r → GoesWith layout points s → r ≡ s

@@ -53,9 +53,9 @@ pub record Lays (chip : Chip) (number : ℕ) (fan : Fan) : Type 0 where
 pub record LaysOut (chip : Chip) (number : ℕ) (facts : Layout) : Type 0 where
   pub answer : facts ≡ layout_of chip number
 
--- what `cards::ground_of` and `ground` of a chip promise
-pub record Stands (chip : Chip) (number : ℕ) (ground : Ground) : Type 0 where
-  pub answer : ground ≡ ground_of chip number
+-- what `cards::ground_of` and `stretches` of a chip promise
+pub record Stands (chip : Chip) (number : ℕ) (stretches : Ground) : Type 0 where
+  pub answer : stretches ≡ ground_of chip number
 
 -- what `cards::selector_of` promises
 pub record Selects (chip : Chip) (selector : Selector) : Type 0 where
@@ -70,9 +70,9 @@ pub record GoesWith (layout : Layout) (points : ℕ) (r : Bool) : Type 0 where
   pub answer : r ≡ goes_with layout points
 
 -- what `pages::one_row` promises
-pub record StandsInOneRow (first settings speeds : ℕ) (masks : Masks) (ground : Ground) : Type 0 where
-  pub answer : ground ≡ in_one_row first settings speeds masks
+pub record StandsInOneRow (first settings speeds : ℕ) (masks : Masks) (stretches : Ground) : Type 0 where
+  pub answer : stretches ≡ in_one_row first settings speeds masks
 
--- what `pages::register_at` promises: the k-th register of the ground, and none behind the last
-pub record StandsAt (ground : Ground) (k : ℕ) (register : Register) : Type 0 where
-  pub answer : register ≡ stands_at ground k
+-- what `pages::register_at` promises: the k-th register of the stretches, and none behind the last
+pub record StandsAt (stretches : Ground) (k : ℕ) (register : Register) : Type 0 where
+  pub answer : register ≡ stands_at stretches k

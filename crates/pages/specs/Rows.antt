@@ -123,10 +123,10 @@ in_one_row first settings speeds masks =
 
 -- each register of the ground of a fan table, settings first
 abbrev pub spread_all : Ground → List Register
-spread_all ground = spread ground.settings ++ (spread ground.last ++ spread ground.speeds)
+spread_all stretches = spread stretches.settings ++ (spread stretches.last ++ spread stretches.speeds)
 
 abbrev pub stands_at : Ground → ℕ → Register
-stands_at ground k = get_or (spread_all ground) k no_register
+stands_at stretches k = get_or (spread_all stretches) k no_register
 
 -- a number for each of n positions, as "each of the 256 addresses"
 unfoldable pub column : ℕ → (ℕ → ℕ) → List ℕ

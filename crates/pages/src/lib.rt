@@ -198,18 +198,18 @@ fn in_a_row(stretch: Stretch, k: usize) -> Register
 }
 
 // The k-th register of a fan table, settings first, and none behind the last.
-pub fn register_at(ground: Ground, k: usize) -> Register
-    ensures { StandsAt ground k result }
+pub fn register_at(stretches: Ground, k: usize) -> Register
+    ensures { StandsAt stretches k result }
 {
-    let settings = ground.settings;
+    let settings = stretches.settings;
     let before = settings.count as usize;
     if k < before {
         return in_a_row(settings, k);
     }
-    let last = ground.last;
+    let last = stretches.last;
     let through = before + last.count as usize;
     if k < through {
         return in_a_row(last, k - before);
     }
-    in_a_row(ground.speeds, k - through)
+    in_a_row(stretches.speeds, k - through)
 }

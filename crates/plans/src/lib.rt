@@ -92,8 +92,8 @@ pub fn asked_of_image(chip: u8, table: u8, image: &[u8], t: u8) -> Asked
                 if image.len() != sizes.image {
                     return Asked::Refused(Refusal::NotAnImage);
                 }
-                let ground = cards::ground_of(known, table);
-                let body = tables::held(ground, image);
+                let stretches = cards::ground_of(known, table);
+                let body = tables::held(stretches, image);
                 let shape = layout.shape;
                 let plan = bodies::plan_of(shape, false, chip, table, 0, &body);
                 Asked::Speed(curves::speed_of(shape, plan, t))

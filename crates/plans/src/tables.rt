@@ -22,23 +22,23 @@ fn worth(image: &[u8], register: Register) -> u8
 }
 
 // Register by register, in the order of the table.
-pub(crate) fn held(ground: Ground, image: &[u8]) -> [u8; LONGEST]
-    ensures { result ≡ column longest (λ k. worth_at (stands_at ground k) image.now) }
+pub(crate) fn held(stretches: Ground, image: &[u8]) -> [u8; LONGEST]
+    ensures { result ≡ column longest (λ k. worth_at (stands_at stretches k) image.now) }
 {
     let mut bytes = [0u8; LONGEST];
     for k in 0..LONGEST {
-        bytes[k] = worth(image, pages::register_at(ground, k));
+        bytes[k] = worth(image, pages::register_at(stretches, k));
     }
     bytes
 }
 
 // Whether the registers of a table, from one place up to another, can hold a body's bytes.
-fn each_fits(ground: Ground, body: [u8; LONGEST], from: usize, to: usize) -> bool
+fn each_fits(stretches: Ground, body: [u8; LONGEST], from: usize, to: usize) -> bool
     requires { to ≤ longest }
-    ensures { result ≡ fit_from (stands_at ground) body from (to - from) }
+    ensures { result ≡ fit_from (stands_at stretches) body from (to - from) }
 {
     for k in from..to {
-        let register = pages::register_at(ground, k);
+        let register = pages::register_at(stretches, k);
         let masks = register.masks;
         let byte = body[k];
         if byte & masks.writable != byte {
@@ -68,10 +68,10 @@ pub(crate) fn fit(chip: Chip, plan: Plan, layout: Layout) -> Fitting
     }
     let shape = layout.shape;
     let body = bodies::body_of(shape, false, plan);
-    let ground = cards::ground_of(chip, plan.table);
+    let stretches = cards::ground_of(chip, plan.table);
     let settings = layout.settings;
     Fitting {
-        settings: each_fits(ground, body, 0, settings),
-        speeds: each_fits(ground, body, settings, settings + layout.speeds),
+        settings: each_fits(stretches, body, 0, settings),
+        speeds: each_fits(stretches, body, settings, settings + layout.speeds),
     }
 }

@@ -87,10 +87,10 @@ module _ (chip : Chip) (plan : Plan) where
   registers_short = omega (arith, table_short chip plan.table, length-append table.settings table.speeds)
 
   -- a register of the load is that of the table
-  loaded_at : (k : ℕ) → stands_at load.ground k ≡ register_in (sheet_of chip) plan.table k
+  loaded_at : (k : ℕ) → stands_at load.stretches k ≡ register_in (sheet_of chip) plan.table k
   loaded_at k = ap (λ (at : ℕ → Register). at k) (table_ground chip plan.table)
 
-  loaded_position : (k : ℕ) → (stands_at load.ground k).position ≡ get_or (positions table) k 0
+  loaded_position : (k : ℕ) → (stands_at load.stretches k).position ≡ get_or (positions table) k 0
   loaded_position k = ap (λ (r : Register). r.position) (loaded_at k) ∙ register_position chip plan.table k
 
   -- of a table that the plan fills

@@ -36,7 +36,7 @@ unfoldable pub byte_at : Load → List ℕ → ℕ → ℕ
 byte_at l bytes k = cond (ltb k l.speeds) l.full (get_or bytes (k - l.speeds) 0)
 
 abbrev pub register_of : Load → ℕ → Register
-register_of l k = stands_at l.ground (place_at l k)
+register_of l k = stands_at l.stretches (place_at l k)
 
 abbrev pub bank_of : Load → ℕ → ℕ
 bank_of l k = (register_of l k).position / 256
@@ -87,7 +87,7 @@ pub record Short (l : Load) : Type 0 where
 abbrev pub load_of : Chip → Plan → Load
 load_of chip plan =
     record {
-      ground = ground_of chip plan.table;
+      stretches = ground_of chip plan.table;
       settings = length (table_of chip plan.table).settings;
       speeds = length (table_of chip plan.table).speeds;
       full = full_of (shape_of chip plan.table);

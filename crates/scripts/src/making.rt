@@ -11,7 +11,7 @@ use pages::{Chip, Ground, Register, Selector};
 // A fan table that is loaded: where it stands, how many settings and speeds it has, the full byte, and the selects.
 #[derive(Clone, Copy)]
 pub struct Load {
-    pub ground: Ground,
+    pub stretches: Ground,
     pub settings: usize,
     pub speeds: usize,
     pub full: u8,
@@ -84,7 +84,7 @@ impl Load {
         ensures { (result.write ≡ write_from self body.now cursor) × (result.cursor ≡ stepped self cursor) }
     {
         let next = cursor.next;
-        let register = pages::register_at(self.ground, self.place(next));
+        let register = pages::register_at(self.stretches, self.place(next));
         let bank = register.position / 256;
         let selector = self.selector;
         if is_ready(selector.bits, cursor.bank, bank) {
@@ -127,7 +127,7 @@ pub(crate) fn load_of(chip: Chip, plan: Plan) -> Load
     let layout = cards::layout_of(chip, plan.table);
     let shape = layout.shape;
     Load {
-        ground: cards::ground_of(chip, plan.table),
+        stretches: cards::ground_of(chip, plan.table),
         settings: layout.settings,
         speeds: layout.speeds,
         full: curves::full_of(shape),

@@ -18,11 +18,11 @@ use Rattle.plans.proofs.tables.each_fits.Statement.{statement}
 use Rattle.plans.proofs.tables.each_fits.Tie as tie
 
 abbrev invariant-loop : tie.invariant-loop
-invariant-loop ground from to body k₀ k =
-    fit_from (stands_at ground) body from (to - from) ≡ fit_from (stands_at ground) body k (to - k)
+invariant-loop stretches from to body k₀ k =
+    fit_from (stands_at stretches) body from (to - from) ≡ fit_from (stands_at stretches) body k (to - k)
 
 abbrev decreases-loop : tie.decreases-loop
-decreases-loop ground from to body k₀ k = to - k
+decreases-loop stretches from to body k₀ k = to - k
 
 -- the place ahead, and those behind it
 ahead : (register : ℕ → Register) (body : List ℕ) (k to : ℕ) → k < to

@@ -13,10 +13,10 @@ use Rattle.plans.proofs.tables.held.Statement.{statement}
 use Rattle.plans.proofs.tables.held.Tie as tie
 
 abbrev invariant-loop : tie.invariant-loop
-invariant-loop ground image bytes₀ k₀ bytes k = Filled (λ j. worth_at (stands_at ground j) image) longest bytes k
+invariant-loop stretches image bytes₀ k₀ bytes k = Filled (λ j. worth_at (stands_at stretches j) image) longest bytes k
 
 abbrev decreases-loop : tie.decreases-loop
-decreases-loop ground image bytes₀ k₀ bytes k = longest - k
+decreases-loop stretches image bytes₀ k₀ bytes k = longest - k
 
 loop-holds : tie.Need-loop-init invariant-loop decreases-loop
 loop-holds c = filled_none _ _ _ refl
@@ -45,7 +45,7 @@ loop-again c =
 returns : tie.Need-returns invariant-loop decreases-loop
 returns c =
     let a = c.before.before.before.args in
-    filled_all c.before.loop.invariant c.loop-test.false (column longest (λ k. worth_at (stands_at a.ground k) a.image.now))
+    filled_all c.before.loop.invariant c.loop-test.false (column longest (λ k. worth_at (stands_at a.stretches k) a.image.now))
     (column_length longest _) (column_at longest _)
 
 pub held_spec : {M : Type 1} → statement M

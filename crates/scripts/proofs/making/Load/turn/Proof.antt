@@ -14,7 +14,7 @@ use Rattle.scripts.proofs.making.Load.turn.Tie as tie
 register : (c : tie.After-register-at) → c.register_at.result ≡ register_of c.before.before.before.args.self c.before.before.before.args.cursor.next
 register c =
     let a = c.before.before.before.args in
-    c.register_at.ensures.answer ∙ ap (stands_at a.self.ground) c.before.place.ensures
+    c.register_at.ensures.answer ∙ ap (stands_at a.self.stretches) c.before.place.ensures
 
 place-requires : tie.Need-place-requires
 place-requires c κs = search rules

@@ -11,8 +11,7 @@ use Rattle.pages.specs.declared.Stretch.{Stretch}
 use Rattle.pages.specs.Rows.{from, with_masks, spread, no_register}
 use Rattle.pages.proofs.Columns.{run_length}
 use borrow.Author.Rules.{rules}
-use Rattle.pages.proofs.register_at.Statement.{statement}
-use Rattle.pages.proofs.register_at.Tie as tie
+use Rattle.pages.proofs.register_at.Goals as goal
 
 spread-length : (r : Stretch) → length (spread r) ≡ r.count
 spread-length r = length-map (from r.first r.count) (with_masks r.masks) ∙ run_length (λ n. n) r.first r.count
@@ -26,48 +25,32 @@ behind r more k h =
     let place : length (spread r) + (k - r.count) ≡ k = omega (arith, spread-length r, h) in
     sym (get_or-append-add (spread r) more (k - r.count) no_register) ∙ ap (λ (n : ℕ). get_or (spread r ++ more) n no_register) place
 
-returns : tie.Need-returns
-returns c =
-    let a = c.before.before.before.before.args in
-    let p = a.ground in
-    record { answer = c.in_a_row.ensures ∙ inside p.settings (spread p.last ++ spread p.speeds) a.k c.before.if1.true }
+pub returns-then-k-before : goal.returns-then-k-before
+returns-then-k-before c =
+    let a = c.args in
+    let p = a.stretches in
+    record { answer = c.in_a_row.ensures ∙ inside p.settings (spread p.last ++ spread p.speeds) a.k c.if-k-before.true }
 
-returns-2 : tie.Need-returns-2
-returns-2 c =
-    let past = c.before.before.before.before in
-    let a = past.before.before.before.args in
-    let p = a.ground in
+pub returns-then-k-through : goal.returns-then-k-through
+returns-then-k-through c =
+    let a = c.args in
+    let p = a.stretches in
     record {
       answer =
-          c.in-a-row2.ensures
-          ∙ inside p.last (spread p.speeds) (a.k - p.settings.count) (omega (arith, c.before.if2.true, past.if1.false))
-          ∙ behind p.settings (spread p.last ++ spread p.speeds) a.k past.if1.false;
+          c.in_a_row-then-k-through.ensures
+          ∙ inside p.last (spread p.speeds) (a.k - p.settings.count) (omega (arith, c.if-k-through.true, c.if-k-before.false))
+          ∙ behind p.settings (spread p.last ++ spread p.speeds) a.k c.if-k-before.false;
     }
 
-returns-3 : tie.Need-returns-3
-returns-3 c =
-    let past = c.before.before.before.before in
-    let a = past.before.before.before.args in
-    let p = a.ground in
+pub returns : goal.returns
+returns c =
+    let a = c.args in
+    let p = a.stretches in
     let place : a.k - (p.settings.count + p.last.count) ≡ a.k - p.settings.count - p.last.count = omega arith in
     record {
       answer =
-          c.in-a-row3.ensures
+          c.in_a_row-2.ensures
           ∙ ap (λ (n : ℕ). get_or (spread p.speeds) n no_register) place
-          ∙ behind p.last (spread p.speeds) (a.k - p.settings.count) (omega (arith, c.before.if2.false))
-          ∙ behind p.settings (spread p.last ++ spread p.speeds) a.k past.if1.false;
+          ∙ behind p.last (spread p.speeds) (a.k - p.settings.count) (omega (arith, c.if-k-through.false))
+          ∙ behind p.settings (spread p.last ++ spread p.speeds) a.k c.if-k-before.false;
     }
-
-pub register-at-spec : {M : Type 1} → statement M
-register-at-spec =
-    tie.close
-    (tie.spec
-    (λ c. search rules)
-    (λ c κs. search rules)
-    returns
-    (λ c. search rules)
-    (λ c. search rules)
-    (λ c κs. search rules)
-    returns-2
-    (λ c κs. search rules)
-    returns-3)
