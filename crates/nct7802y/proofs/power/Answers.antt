@@ -1,0 +1,16 @@
+-- `nct7802y::power` meets its contract: the array is the power-on column of the card, by computation.
+use Rattle.pages.specs.declared.Chip.TheVariants.{Nct7802y}
+use Rattle.pages.specs.Rows.{column}
+use Rattle.pages.specs.Sheets.{power_on_in}
+use Rattle.pages.specs.Cards.{sheet_of}
+use Rattle.pages.specs.Nct7802y.{card}
+use Rattle.pages.proofs.Lines.{power_at, power_beyond}
+use Rattle.nct7802y.proofs.power.Goals as goal
+
+pub returns-then-position-ge-SIZE : goal.returns-then-position-ge-SIZE
+unfolding sheet_of
+returns-then-position-ge-SIZE c = record { answer = power_beyond Nct7802y c.args.position c.if-position-ge-SIZE.true }
+
+pub returns : goal.returns
+unfolding sheet_of power_on_in column card
+returns c = record { answer = power_at Nct7802y c.args.position c.if-position-ge-SIZE.false }
