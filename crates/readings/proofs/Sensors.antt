@@ -1,7 +1,7 @@
 -- A temperature that is stored where its chip holds it is read back, no other byte moves, and the bits that do not count neither move nor matter:
 -- once for every place that passes a test, which is computed for chips 1 and 3.
 -- Assumes nothing.
-use Prim.Native.Nat.{ℕ, suc, ◌+◌, ◌-◌, ◌*◌, ◌/◌, ◌^◌, ◌<◌, ◌≤◌}
+use Prim.Native.Nat.{ℕ, suc, ◌-◌, ◌/◌, ◌^◌, ◌<◌, ◌≤◌}
 use native.Mathlib.Omega.{arith}
 use mathlib.Core.Path.{◌≡◌, refl, sym, ap, ap₂, ◌∙◌, subst}
 use mathlib.Core.Bool.{Bool, true, false, So, ◌&&◌, ◌||◌}
