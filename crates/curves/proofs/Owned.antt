@@ -1,9 +1,9 @@
 -- What code that holds a plan knows of it: every array has its length, and every number fits its type. Read off what owning the parameter tells.
 -- Assumes nothing.
 use Prim.Native.Nat.{ℕ, zero, suc}
-use mathlib.Core.Path.{◌≡◌, sym, ◌∙◌}
-use mathlib.Core.List.{List, [], ◌∷◌, map}
-use lib.ListN.{length, get_or, length-map}
+use mathlib.Core.Path.{◌≡◌}
+use mathlib.Core.List.{List, [], ◌∷◌}
+use lib.ListN.{length, get_or}
 use mir.Syntax.{Width, w8, w16}
 use mir.Val.{Val, bits}
 use denote.Array.{each, Array}
@@ -17,14 +17,14 @@ use Rattle.curves.specs.Orders.{All}
 use Rattle.curves.specs.Values.{Within, Typed}
 use Rattle.curves.specs.contracts.Plan as declared
 
-each_within : (w : Width) (xs : List ℕ) (us : List Val) → shadow (each ℕ (UInt w).own_val (map (λ v. v) xs) us) → Within (bits w) xs
+each_within : (w : Width) (xs : List ℕ) (us : List Val) → shadow (each ℕ (UInt w).own_val xs us) → Within (bits w) xs
 each_within w [] us s = tt
 each_within w (x ∷ xs) [] s = absurd s
 each_within w (x ∷ xs) (u ∷ us) s = (s.0.1, each_within w xs us s.1)
 
 -- an array that is owned has its length, and its numbers fit
-owned : (w : Width) (n : ℕ) (xs : List ℕ) (vs : List Val) → Is (Array (UInt w) n) (map (λ v. v) xs) vs → (length xs ≡ n) × Within (bits w) xs
-owned w n xs vs s = (sym (length-map xs (λ v. v)) ∙ s.1.0.1, each_within w xs s.0 s.1.1)
+owned : (w : Width) (n : ℕ) (xs : List ℕ) (vs : List Val) → Is (Array (UInt w) n) xs vs → (length xs ≡ n) × Within (bits w) xs
+owned w n xs vs s = (s.1.0.1, each_within w xs s.0 s.1.1)
 
 pub plan_typed : (plan : Plan) (vs : List Val) → Is (row declared.the_type) plan vs → Typed plan
 plan_typed plan vs s =
