@@ -1,8 +1,5 @@
 -- `nct7904d::masks` meets its contract: a position is its bank and its address, and no line clears a bit.
--- Assumes nothing.
-use Prim.Native.Nat.{ℕ, ◌+◌, ◌*◌, ◌/◌, ◌%◌}
-use native.Mathlib.Omega.{arith}
-use mathlib.Core.Path.{◌≡◌, refl, ap, ap₂, ◌∙◌}
+use Rattle.std.proofs.Common.{◌≡◌, ℕ, ◌+◌, ◌*◌, ◌/◌, ◌%◌, refl, ap, ap₂, ◌∙◌, arith}
 use Rattle.pages.specs.declared.Chip.TheVariants.{Nct7904d}
 use Rattle.pages.specs.Rows.{row, masks_in, row_in}
 use Rattle.pages.specs.Cards.{sheet_of, row_of}
@@ -13,26 +10,19 @@ use Rattle.pages.specs.Nct7904dBank2 as bank2
 use Rattle.pages.specs.Nct7904dBank3 as bank3
 use Rattle.pages.specs.Nct7904dBank4 as bank4
 use Rattle.pages.proofs.Lines.{clearless}
-use Rattle.nct7904d.proofs.masks.Statement.{statement}
-use Rattle.nct7904d.proofs.masks.Tie as tie
+use Rattle.nct7904d.proofs.masks.Goals as goal
 
 no-clears : (position : ℕ) → 0x00 ≡ (row_of Nct7904d position).clears
 unfolding sheet_of card bank0.bank bank1.bank bank2.bank bank3.bank bank4.bank
 no-clears position = clearless Nct7904d position refl
 
-writable-requires : tie.Need-writable-requires
-writable-requires c κs = omega arith
-
-returns : tie.Need-returns
+pub returns : goal.returns
 unfolding sheet_of row_of
-returns c =
-    let position = c.before.args.position in
+returns c = 
+    let position = c.args.position in
     let whole : position / 256 * 256 + position % 256 ≡ position = omega arith in
     record {
       answer =
           ap₂ (λ (w clears : ℕ). masks_in (row w clears 0x00))
           (c.writable.ensures ∙ ap (λ (p : ℕ). (row_in card p).writable) whole) (no-clears position);
     }
-
-pub masks-spec : {M : Type 1} → statement M
-masks-spec = tie.close (tie.spec writable-requires returns)
