@@ -1,5 +1,4 @@
 -- `nct80::row_at` meets its contract: an arm tells the row of every address that comes to it, by computation over the addresses of the arm.
--- Assumes nothing.
 use Prim.Native.Nat.{ℕ, suc, ◌-◌, ◌≤◌, ◌<◌}
 use native.Mathlib.Omega.{arith}
 use mathlib.Core.Path.{◌≡◌, refl, sym, ap, subst, ◌∙◌}
@@ -16,8 +15,7 @@ use Rattle.pages.specs.Nct80.{card}
 use Rattle.pages.proofs.Columns.{run_length, run_at}
 use Rattle.pages.proofs.Every.{both, of_every}
 use Rattle.pages.proofs.Lines.{row_beyond}
-use Rattle.nct80.proofs.row_at.Statement.{statement}
-use Rattle.nct80.proofs.row_at.Tie as tie
+use Rattle.nct80.proofs.row_at.Goals as goal
 
 abbrev Told : ℕ → ℕ → ℕ → Type 0
 Told writable power position = (writable ≡ (row_of Nct80 position).writable) × (power ≡ (row_of Nct80 position).power)
@@ -62,43 +60,65 @@ unlisted {position} low other =
     let none = row_beyond 0x3F 0x00 card refl position (omega (arith, low, other)) in
     (ap (λ (r : Row). r.writable) (sym none), ap (λ (r : Row). r.power) (sym none))
 
-neither : {A B : Type 0} → (A ⊎ B → ⊥) → (A → ⊥) × (B → ⊥)
-neither r = (λ a. r (inl a), λ b. r (inr b))
-
--- 09h is what single addresses leave of its range, from 05h on ..
-rate-programming : tie.Need-returns-9
+pub returns-in-0 : goal.returns-in-0
 unfolding sheet_of row_of card
-rate-programming c =
-    let r = c.match2.rest in
-    told 0x09 0x09 refl (omega (arith, c.before.before.if2.false, r.0.0.0.1, r.0.0.1, r.0.1, r.1)) c.before.if3.true
+returns-in-0 c = alone 0x00 refl c.in-0.is
 
--- .. and so are 3Ch and 3Dh, from 38h on
-fan-counts : tie.Need-returns-15
+pub returns-in-62 : goal.returns-in-62
 unfolding sheet_of row_of card
-fan-counts c =
-    let limits = neither c.match3.rest.0.1 in
-    let hystereses = neither c.match3.rest.1 in
-    told 0x3C 0x3D refl (omega (arith, c.before.before.if6.false, limits, hystereses)) c.before.if7.true
+returns-in-62 c = alone 0x3E refl c.in-62.is
 
--- 00h and 3Eh are tested first, and of a range its end alone: it begins where the one before it ends.
-pub row-at-spec : {M : Type 1} → statement M
+pub returns-in-1-to-2 : goal.returns-in-1-to-2
 unfolding sheet_of row_of card
-row-at-spec =
-    tie.close
-    (tie.spec
-    (λ c. alone 0x00 refl c.match.keys1)
-    (λ c. alone 0x3E refl c.match.keys2)
-    (λ c. told 0x01 0x02 refl (omega (arith, c.before.match.rest.0.1)) c.if1.true)
-    (λ c. told 0x03 0x04 refl c.before.if1.false c.if2.true)
-    (λ c. alone 0x05 refl c.match2.keys1)
-    (λ c. alone 0x06 refl c.match2.keys2)
-    (λ c. alone 0x07 refl c.match2.keys3)
-    (λ c. alone 0x08 refl c.match2.keys4)
-    rate-programming
-    (λ c. told 0x0A 0x1F refl c.before.if3.false c.if4.true)
-    (λ c. told 0x20 0x29 refl c.before.if4.false c.if5.true)
-    (λ c. told 0x2A 0x37 refl c.before.if5.false c.if6.true)
-    (λ c. ⊎_elim (alone 0x38 refl) (alone 0x3A refl) c.match3.keys1)
-    (λ c. ⊎_elim (alone 0x39 refl) (alone 0x3B refl) c.match3.keys2)
-    fan-counts
-    (λ c. unlisted c.if7.false c.before.before.before.before.before.before.before.match.rest.1))
+returns-in-1-to-2 c = told 0x01 0x02 {position = c.args.position} refl (omega arith) (omega arith)
+
+pub returns-in-3-to-4 : goal.returns-in-3-to-4
+unfolding sheet_of row_of card
+returns-in-3-to-4 c = told 0x03 0x04 {position = c.args.position} refl (omega arith) (omega arith)
+
+pub returns-in-5 : goal.returns-in-5
+unfolding sheet_of row_of card
+returns-in-5 c = alone 0x05 refl c.in-5.is
+
+pub returns-in-6 : goal.returns-in-6
+unfolding sheet_of row_of card
+returns-in-6 c = alone 0x06 refl c.in-6.is
+
+pub returns-in-7 : goal.returns-in-7
+unfolding sheet_of row_of card
+returns-in-7 c = alone 0x07 refl c.in-7.is
+
+pub returns-in-8 : goal.returns-in-8
+unfolding sheet_of row_of card
+returns-in-8 c = alone 0x08 refl c.in-8.is
+
+pub returns-in_default-position : goal.returns-in_default-position
+unfolding sheet_of row_of card
+returns-in_default-position c = told 0x09 0x09 {position = c.args.position} refl (omega arith) (omega arith)
+
+pub returns-in-10-to-31 : goal.returns-in-10-to-31
+unfolding sheet_of row_of card
+returns-in-10-to-31 c = told 0x0A 0x1F {position = c.args.position} refl (omega arith) (omega arith)
+
+pub returns-in-32-to-41 : goal.returns-in-32-to-41
+unfolding sheet_of row_of card
+returns-in-32-to-41 c = told 0x20 0x29 {position = c.args.position} refl (omega arith) (omega arith)
+
+pub returns-in-42-to-55 : goal.returns-in-42-to-55
+unfolding sheet_of row_of card
+returns-in-42-to-55 c = told 0x2A 0x37 {position = c.args.position} refl (omega arith) (omega arith)
+
+pub returns-in-56 : goal.returns-in-56
+unfolding sheet_of row_of card
+returns-in-56 c = ⊎_elim (alone 0x38 refl) (alone 0x3A refl) c.in-56.is
+
+pub returns-in-57 : goal.returns-in-57
+unfolding sheet_of row_of card
+returns-in-57 c = ⊎_elim (alone 0x39 refl) (alone 0x3B refl) c.in-57.is
+
+pub returns-in_default-position-2 : goal.returns-in_default-position-2
+unfolding sheet_of row_of card
+returns-in_default-position-2 c = told 0x3C 0x3D {position = c.args.position} refl (grind arith) (omega arith)
+
+pub returns-in_default : goal.returns-in_default
+returns-in_default c = unlisted (omega arith) (λ e. omega arith)
