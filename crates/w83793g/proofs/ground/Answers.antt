@@ -1,9 +1,5 @@
 -- `w83793g::ground` meets its contract: each table has its registers there and their masks are the card's, by computation.
--- Assumes nothing.
-use Prim.Native.Nat.{ℕ, zero, suc, ◌+◌, ◌*◌, ◌≤◌}
-use native.Mathlib.Omega.{arith}
-use mathlib.Core.Path.{◌≡◌, refl, sym, ◌∙◌}
-use borrow.Author.Rules.{rules}
+use Rattle.std.proofs.Common.{◌≡◌, ℕ, zero, suc, ◌+◌, ◌*◌, ◌≤◌, arith, refl, sym, ◌∙◌}
 use Rattle.pages.specs.declared.Chip.TheVariants.{W83793g}
 use Rattle.pages.specs.declared.Ground.{Ground}
 use Rattle.pages.specs.Rows.{mask_of, stretch}
@@ -13,8 +9,7 @@ use Rattle.pages.specs.W83793gBank1 as bank1
 use Rattle.pages.specs.W83793gBank2 as bank2
 use Rattle.pages.specs.Cards.{sheet_of, ground_of}
 use Rattle.pages.proofs.Tables.{no_ground}
-use Rattle.w83793g.proofs.ground.Statement.{statement}
-use Rattle.w83793g.proofs.ground.Tie as tie
+use Rattle.w83793g.proofs.ground.Goals as goal
 
 -- what `in_table` makes of a first register
 abbrev made : ℕ → Ground
@@ -32,14 +27,13 @@ stands (suc (suc (suc (suc (suc zero))))) h l = refl
 stands (suc (suc (suc (suc (suc (suc zero)))))) h l = refl
 stands (suc (suc (suc (suc (suc (suc (suc n))))))) h l = absurd (omega (arith, l))
 
-pub ground-spec : {M : Type 1} → statement M
+pub returns-in-1-to-6 : goal.returns-in-1-to-6
+returns-in-1-to-6 c = record { answer = c.in_table.ensures ∙ stands c.args.number (omega arith) (omega arith) }
+
+pub returns-in_default : goal.returns-in_default
 unfolding sheet_of
-ground-spec =
-    tie.close
-    (tie.spec
-    (λ c. search rules)
-    (λ c. search rules)
-    (λ c κs. search rules)
-    (λ c. record { answer = c.in_table.ensures ∙ stands c.before.before.before.args.number (omega arith) (omega arith) })
-    (λ c. record { answer = sym (no_ground (sheet_of W83793g) c.before.args.number (λ p q. omega arith)) })
-    (λ c. record { answer = sym (no_ground (sheet_of W83793g) c.before.before.args.number (λ p q. omega arith)) }))
+returns-in_default c = record { answer = sym (no_ground (sheet_of W83793g) c.args.number (λ p q. omega arith)) }
+
+pub returns-in_default-2 : goal.returns-in_default-2
+unfolding sheet_of
+returns-in_default-2 c = record { answer = sym (no_ground (sheet_of W83793g) c.args.number (λ p q. omega arith)) }

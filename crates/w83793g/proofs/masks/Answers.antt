@@ -1,8 +1,5 @@
 -- `w83793g::masks` meets its contract: a position is its bank and its address, and no line clears a bit.
--- Assumes nothing.
-use Prim.Native.Nat.{ℕ, ◌+◌, ◌*◌, ◌/◌, ◌%◌}
-use native.Mathlib.Omega.{arith}
-use mathlib.Core.Path.{◌≡◌, refl, ap, ap₂, ◌∙◌}
+use Rattle.std.proofs.Common.{◌≡◌, ℕ, ◌+◌, ◌*◌, ◌/◌, ◌%◌, refl, ap, ap₂, ◌∙◌, arith}
 use Rattle.pages.specs.declared.Chip.TheVariants.{W83793g}
 use Rattle.pages.specs.Rows.{row, masks_in, row_in}
 use Rattle.pages.specs.Cards.{sheet_of, row_of}
@@ -11,26 +8,19 @@ use Rattle.pages.specs.W83793gBank0 as bank0
 use Rattle.pages.specs.W83793gBank1 as bank1
 use Rattle.pages.specs.W83793gBank2 as bank2
 use Rattle.pages.proofs.Lines.{clearless}
-use Rattle.w83793g.proofs.masks.Statement.{statement}
-use Rattle.w83793g.proofs.masks.Tie as tie
+use Rattle.w83793g.proofs.masks.Goals as goal
 
 no-clears : (position : ℕ) → 0x00 ≡ (row_of W83793g position).clears
 unfolding sheet_of card bank0.bank bank1.bank bank2.bank
 no-clears position = clearless W83793g position refl
 
-writable-requires : tie.Need-writable-requires
-writable-requires c κs = omega arith
-
-returns : tie.Need-returns
+pub returns : goal.returns
 unfolding sheet_of row_of
-returns c =
-    let position = c.before.args.position in
+returns c = 
+    let position = c.args.position in
     let whole : position / 256 * 256 + position % 256 ≡ position = omega arith in
     record {
       answer =
           ap₂ (λ (w clears : ℕ). masks_in (row w clears 0x00))
           (c.writable.ensures ∙ ap (λ (p : ℕ). (row_in card p).writable) whole) (no-clears position);
     }
-
-pub masks-spec : {M : Type 1} → statement M
-masks-spec = tie.close (tie.spec writable-requires returns)
