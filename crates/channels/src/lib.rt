@@ -103,8 +103,8 @@ fn is_above(steps: i16, limit: i8) -> bool
 // raises nothing and leaves the watch.
 fn take_temperature(image: &mut [u8], watch: Watch, next: Watch, steps: i16) -> Watch
     requires image_len { length image.old ≡ 256 }
-    requires next_value { next ≡ fed steps (record { image = image.now; watch = watch }) }
-    ensures { record { image = image.exit.now; watch = result } ≡ temperature_taken steps (record { image = image.entry.now; watch = watch }) }
+    requires next_value { next ≡ fed steps (record { image = image.old; watch = watch }) }
+    ensures { record { image = image.new; watch = result } ≡ temperature_taken steps (record { image = image.old; watch = watch }) }
 {
     if is_on(0x80, image[0x08]) {
         store_temperature(image, 0);
