@@ -2,40 +2,41 @@
 // `watch BEHAVIOUR limits H L run N N ..` and `watch BEHAVIOUR acknowledge ..`, each with what the watch then holds and shows.
 #![tactic(auto)]
 
+use std::io::{self, Stdout};
 use watch::{Behaviour, Sampled, Watch};
 
-fn begin(watch: Watch) {
-    figures_printing::text(b"watch ");
+fn begin(out: Stdout, watch: Watch) -> io::Result<()> {
+    figures_printing::text(out, b"watch ")?;
     let behaviour = watch.behaviour;
     match behaviour {
-        Behaviour::Default => figures_printing::text(b"default"),
-        Behaviour::OneTime => figures_printing::text(b"one-time"),
-        Behaviour::Comparator => figures_printing::text(b"comparator"),
+        Behaviour::Default => figures_printing::text(out, b"default"),
+        Behaviour::OneTime => figures_printing::text(out, b"one-time"),
+        Behaviour::Comparator => figures_printing::text(out, b"comparator"),
     }
 }
 
-fn end(watch: Watch) {
-    figures_printing::fact(b" hot", watch.hot);
-    figures_printing::fact(b" pending", watch.pending);
-    figures_printing::fact(b" output", watch.output());
-    figures_printing::line_end();
+fn end(out: Stdout, watch: Watch) -> io::Result<()> {
+    figures_printing::fact(out, b" hot", watch.hot)?;
+    figures_printing::fact(out, b" pending", watch.pending)?;
+    figures_printing::fact(out, b" output", watch.output())?;
+    figures_printing::line_end(out)
 }
 
-fn started(behaviour: Behaviour) -> Watch {
+fn started(out: Stdout, behaviour: Behaviour) -> io::Result<Watch> {
     let watch = Watch::new(behaviour);
-    begin(watch);
-    figures_printing::text(b" new");
-    end(watch);
-    watch
+    begin(out, watch)?;
+    figures_printing::text(out, b" new")?;
+    end(out, watch)?;
+    Ok(watch)
 }
 
 // The watch after a sample; a refusal says so.
-fn told(sampled: Sampled) -> Watch {
+fn told(out: Stdout, sampled: Sampled) -> io::Result<Watch> {
     match sampled {
-        Sampled::Taken(watch) => watch,
+        Sampled::Taken(watch) => Ok(watch),
         Sampled::Refused(r, watch) => {
-            figures_printing::refused(r);
-            watch
+            figures_printing::refused(out, r)?;
+            Ok(watch)
         }
     }
 }
@@ -44,137 +45,147 @@ fn in_sixteen_bits(degrees: i8) -> i16 {
     degrees as i16
 }
 
-fn sample(watch: Watch, steps: i16, high: i8, hysteresis: i8) -> Watch {
-    begin(watch);
-    figures_printing::text(b" limits ");
-    figures_printing::signed(in_sixteen_bits(high));
-    figures_printing::space();
-    figures_printing::signed(in_sixteen_bits(hysteresis));
-    figures_printing::text(b" sample ");
-    figures_printing::signed(steps);
-    let after = told(watch.sample(steps, high, hysteresis));
-    end(after);
-    after
+fn sample(out: Stdout, watch: Watch, steps: i16, high: i8, hysteresis: i8) -> io::Result<Watch> {
+    begin(out, watch)?;
+    figures_printing::text(out, b" limits ")?;
+    figures_printing::signed(out, in_sixteen_bits(high))?;
+    figures_printing::space(out)?;
+    figures_printing::signed(out, in_sixteen_bits(hysteresis))?;
+    figures_printing::text(out, b" sample ")?;
+    figures_printing::signed(out, steps)?;
+    let after = told(out, watch.sample(steps, high, hysteresis))?;
+    end(out, after)?;
+    Ok(after)
 }
 
-fn acknowledge(watch: Watch) -> Watch {
+fn acknowledge(out: Stdout, watch: Watch) -> io::Result<Watch> {
     let after = watch.acknowledge();
-    begin(after);
-    figures_printing::text(b" acknowledge");
-    end(after);
-    after
+    begin(out, after)?;
+    figures_printing::text(out, b" acknowledge")?;
+    end(out, after)?;
+    Ok(after)
 }
 
 // The rules paper's history: 81, 78, acknowledge, 78 degrees.
-fn figure(behaviour: Behaviour) {
-    let mut watch = started(behaviour);
-    watch = sample(watch, 1296, 80, 75);
-    watch = sample(watch, 1248, 80, 75);
-    watch = acknowledge(watch);
-    sample(watch, 1248, 80, 75);
+fn figure(out: Stdout, behaviour: Behaviour) -> io::Result<()> {
+    let mut watch = started(out, behaviour)?;
+    watch = sample(out, watch, 1296, 80, 75)?;
+    watch = sample(out, watch, 1248, 80, 75)?;
+    watch = acknowledge(out, watch)?;
+    sample(out, watch, 1248, 80, 75)?;
+    Ok(())
 }
 
 // Exactly at a limit nothing changes, and a step beyond it hot does.
-fn at_the_limits(behaviour: Behaviour) {
-    let mut watch = started(behaviour);
-    watch = sample(watch, 1280, 80, 75);
-    watch = sample(watch, 1281, 80, 75);
-    watch = sample(watch, 1280, 80, 75);
-    watch = sample(watch, 1200, 80, 75);
-    watch = sample(watch, 1199, 80, 75);
-    sample(watch, 1200, 80, 75);
+fn at_the_limits(out: Stdout, behaviour: Behaviour) -> io::Result<()> {
+    let mut watch = started(out, behaviour)?;
+    watch = sample(out, watch, 1280, 80, 75)?;
+    watch = sample(out, watch, 1281, 80, 75)?;
+    watch = sample(out, watch, 1280, 80, 75)?;
+    watch = sample(out, watch, 1200, 80, 75)?;
+    watch = sample(out, watch, 1199, 80, 75)?;
+    sample(out, watch, 1200, 80, 75)?;
+    Ok(())
 }
 
-fn refused_samples(before: Watch) -> Watch {
-    let mut watch = sample(before, 2048, 80, 75);
-    watch = sample(watch, -2049, 80, 75);
-    watch = sample(watch, 32767, 80, 75);
-    sample(watch, -32768, 80, 75)
+fn refused_samples(out: Stdout, before: Watch) -> io::Result<Watch> {
+    let mut watch = sample(out, before, 2048, 80, 75)?;
+    watch = sample(out, watch, -2049, 80, 75)?;
+    watch = sample(out, watch, 32767, 80, 75)?;
+    sample(out, watch, -32768, 80, 75)
 }
 
 // Refused samples leave a watch that is cold as it was, and one that is hot; the ends of the twelve bits are taken.
-fn at_the_ends(behaviour: Behaviour) {
-    let mut watch = refused_samples(started(behaviour));
-    watch = sample(watch, 2047, 80, 75);
-    watch = refused_samples(watch);
-    sample(watch, -2048, 80, 75);
+fn at_the_ends(out: Stdout, behaviour: Behaviour) -> io::Result<()> {
+    let mut watch = refused_samples(out, started(out, behaviour)?)?;
+    watch = sample(out, watch, 2047, 80, 75)?;
+    watch = refused_samples(out, watch)?;
+    sample(out, watch, -2048, 80, 75)?;
+    Ok(())
 }
 
 // With the hysteresis limit above the high limit the high limit decides.
-fn limits_crossed(behaviour: Behaviour) {
-    let mut watch = started(behaviour);
-    watch = sample(watch, 1200, 75, 80);
-    watch = sample(watch, 1201, 75, 80);
-    watch = sample(watch, 1279, 75, 80);
-    sample(watch, 1200, 75, 80);
+fn limits_crossed(out: Stdout, behaviour: Behaviour) -> io::Result<()> {
+    let mut watch = started(out, behaviour)?;
+    watch = sample(out, watch, 1200, 75, 80)?;
+    watch = sample(out, watch, 1201, 75, 80)?;
+    watch = sample(out, watch, 1279, 75, 80)?;
+    sample(out, watch, 1200, 75, 80)?;
+    Ok(())
 }
 
 // Once acknowledged, one-time waits for it to cool before the next alarm.
-fn second_alarm(behaviour: Behaviour) {
-    let mut watch = started(behaviour);
-    watch = sample(watch, 1296, 80, 75);
-    watch = acknowledge(watch);
-    watch = sample(watch, 1296, 80, 75);
-    watch = acknowledge(watch);
-    watch = sample(watch, 1199, 80, 75);
-    sample(watch, 1296, 80, 75);
+fn second_alarm(out: Stdout, behaviour: Behaviour) -> io::Result<()> {
+    let mut watch = started(out, behaviour)?;
+    watch = sample(out, watch, 1296, 80, 75)?;
+    watch = acknowledge(out, watch)?;
+    watch = sample(out, watch, 1296, 80, 75)?;
+    watch = acknowledge(out, watch)?;
+    watch = sample(out, watch, 1199, 80, 75)?;
+    sample(out, watch, 1296, 80, 75)?;
+    Ok(())
 }
 
-fn samples_of(samples: &[i16]) {
+fn samples_of(out: Stdout, samples: &[i16]) -> io::Result<()> {
     for k in 0..samples.len() {
-        figures_printing::space();
-        figures_printing::signed(samples[k]);
+        figures_printing::space(out)?;
+        figures_printing::signed(out, samples[k])?;
     }
+    Ok(())
 }
 
 // Recorded samples in turn, with the limits 80 and 75.
-fn run(watch: Watch, samples: &[i16]) -> Watch {
+fn run(out: Stdout, watch: Watch, samples: &[i16]) -> io::Result<Watch> {
     let after = watch.run(samples, 80, 75);
-    begin(after);
-    figures_printing::text(b" limits 80 75 run");
-    samples_of(samples);
-    end(after);
-    after
+    begin(out, after)?;
+    figures_printing::text(out, b" limits 80 75 run")?;
+    samples_of(out, samples)?;
+    end(out, after)?;
+    Ok(after)
 }
 
 // A refused sample changes nothing, wherever it stands, and the run goes on.
-fn refused_in_a_run(behaviour: Behaviour) {
-    run(Watch::new(behaviour), &[1296, 1248, 2048, 1199, 1281]);
-    run(Watch::new(behaviour), &[1296, 2048, 1199]);
-    run(Watch::new(behaviour), &[1296, -2049, 1248]);
-    run(Watch::new(behaviour), &[1199, 2048, 1248]);
+fn refused_in_a_run(out: Stdout, behaviour: Behaviour) -> io::Result<()> {
+    run(out, Watch::new(behaviour), &[1296, 1248, 2048, 1199, 1281])?;
+    run(out, Watch::new(behaviour), &[1296, 2048, 1199])?;
+    run(out, Watch::new(behaviour), &[1296, -2049, 1248])?;
+    run(out, Watch::new(behaviour), &[1199, 2048, 1248])?;
+    Ok(())
 }
 
 // Runs that end between the limits, below both, and exactly at each.
-fn ends_of_runs(behaviour: Behaviour) {
-    run(Watch::new(behaviour), &[1199, 1296, 1248]);
-    run(Watch::new(behaviour), &[1296, 1199, 1248]);
-    run(Watch::new(behaviour), &[1296, 1248, 1199]);
-    run(Watch::new(behaviour), &[1248, 1199]);
-    run(Watch::new(behaviour), &[1281, 1199, 1280]);
-    run(Watch::new(behaviour), &[1199, 1281, 1200]);
+fn ends_of_runs(out: Stdout, behaviour: Behaviour) -> io::Result<()> {
+    run(out, Watch::new(behaviour), &[1199, 1296, 1248])?;
+    run(out, Watch::new(behaviour), &[1296, 1199, 1248])?;
+    run(out, Watch::new(behaviour), &[1296, 1248, 1199])?;
+    run(out, Watch::new(behaviour), &[1248, 1199])?;
+    run(out, Watch::new(behaviour), &[1281, 1199, 1280])?;
+    run(out, Watch::new(behaviour), &[1199, 1281, 1200])?;
+    Ok(())
 }
 
 // The rules paper's history again, in two runs: the second goes on from where the first and the acknowledge ended.
-fn figure_in_runs(behaviour: Behaviour) {
-    let mut watch = run(Watch::new(behaviour), &[1296, 1248]);
-    watch = acknowledge(watch);
-    run(watch, &[1248]);
+fn figure_in_runs(out: Stdout, behaviour: Behaviour) -> io::Result<()> {
+    let mut watch = run(out, Watch::new(behaviour), &[1296, 1248])?;
+    watch = acknowledge(out, watch)?;
+    run(out, watch, &[1248])?;
+    Ok(())
 }
 
-fn histories(behaviour: Behaviour) {
-    figure(behaviour);
-    at_the_limits(behaviour);
-    at_the_ends(behaviour);
-    limits_crossed(behaviour);
-    second_alarm(behaviour);
-    refused_in_a_run(behaviour);
-    ends_of_runs(behaviour);
-    figure_in_runs(behaviour);
+fn histories(out: Stdout, behaviour: Behaviour) -> io::Result<()> {
+    figure(out, behaviour)?;
+    at_the_limits(out, behaviour)?;
+    at_the_ends(out, behaviour)?;
+    limits_crossed(out, behaviour)?;
+    second_alarm(out, behaviour)?;
+    refused_in_a_run(out, behaviour)?;
+    ends_of_runs(out, behaviour)?;
+    figure_in_runs(out, behaviour)
 }
 
-fn main() {
-    histories(Behaviour::Default);
-    histories(Behaviour::OneTime);
-    histories(Behaviour::Comparator);
+fn main(rt: HostRuntime) -> io::Result<()> {
+    let out = rt.stdout();
+    histories(out, Behaviour::Default)?;
+    histories(out, Behaviour::OneTime)?;
+    histories(out, Behaviour::Comparator)
 }
