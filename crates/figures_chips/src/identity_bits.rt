@@ -3,6 +3,7 @@
 // which a register is confirmed, `identity chip 5 select SS at PPP takes BB`.
 use crate::{banks, image_calls};
 use refusal::Outcome;
+use std::io::{self, Stdout};
 
 fn turn(image: &mut [u8], at: usize, bit: u8) {
     if at < image.len() {
@@ -38,122 +39,128 @@ fn how_many(chip: u8, image: &mut [u8]) -> u32 {
     count
 }
 
-fn listed(at: usize, bits: u8) {
+fn listed(out: Stdout, at: usize, bits: u8) -> io::Result<()> {
     if bits != 0 {
-        figures_printing::placed(at, bits);
+        figures_printing::placed(out, at, bits)?;
     }
+    Ok(())
 }
 
-fn list(chip: u8, image: &mut [u8]) {
+fn list(out: Stdout, chip: u8, image: &mut [u8]) -> io::Result<()> {
     for at in 0..image.len() {
         let bits = seen(chip, image, at);
-        listed(at, bits);
+        listed(out, at, bits)?;
     }
+    Ok(())
 }
 
-fn begin(chip: u8) {
-    figures_printing::labelled(b"identity chip ", chip as u64);
+fn begin(out: Stdout, chip: u8) -> io::Result<()> {
+    figures_printing::labelled(out, b"identity chip ", chip as u64)
 }
 
-fn confirmed(chip: u8, image: &mut [u8]) {
-    image_calls::identity(chip, image);
-    figures_printing::labelled(b" bits ", how_many(chip, image) as u64);
-    figures_printing::line_end();
+fn confirmed(out: Stdout, chip: u8, image: &mut [u8]) -> io::Result<()> {
+    image_calls::identity(out, chip, image)?;
+    figures_printing::labelled(out, b" bits ", how_many(chip, image) as u64)?;
+    figures_printing::line_end(out)
 }
 
 // Of the chip's own power-on image.
-fn at_power_on(chip: u8, image: &mut [u8]) {
+fn at_power_on(out: Stdout, chip: u8, image: &mut [u8]) -> io::Result<()> {
     images::reset(chip, image);
-    begin(chip);
-    figures_printing::text(b" power-on");
-    confirmed(chip, image);
-    begin(chip);
-    figures_printing::text(b" sees");
-    list(chip, image);
-    figures_printing::line_end();
+    begin(out, chip)?;
+    figures_printing::text(out, b" power-on")?;
+    confirmed(out, chip, image)?;
+    begin(out, chip)?;
+    figures_printing::text(out, b" sees")?;
+    list(out, chip, image)?;
+    figures_printing::line_end(out)
 }
 
 // Of the power-on image with a bank selected.
-fn begin_selected(chip: u8, image: &mut [u8], select: u8) {
+fn begin_selected(out: Stdout, chip: u8, image: &mut [u8], select: u8) -> io::Result<()> {
     images::reset(chip, image);
     banks::select(chip, image, select);
-    begin(chip);
-    figures_printing::text(b" select ");
-    figures_printing::byte(select);
+    begin(out, chip)?;
+    figures_printing::text(out, b" select ")?;
+    figures_printing::byte(out, select)
 }
 
-fn selected(chip: u8, image: &mut [u8], select: u8) {
-    begin_selected(chip, image, select);
-    confirmed(chip, image);
+fn selected(out: Stdout, chip: u8, image: &mut [u8], select: u8) -> io::Result<()> {
+    begin_selected(out, chip, image, select)?;
+    confirmed(out, chip, image)
 }
 
 // Of chip 5 with bit 7 of the select register off and on.
-fn selected_by(chip: u8, image: &mut [u8], code: u8) {
-    selected(chip, image, code);
+fn selected_by(out: Stdout, chip: u8, image: &mut [u8], code: u8) -> io::Result<()> {
+    selected(out, chip, image, code)?;
     if chip == 5 {
-        selected(chip, image, code | 0x80);
+        selected(out, chip, image, code | 0x80)?;
     }
+    Ok(())
 }
 
-fn codes_of(chip: u8, image: &mut [u8]) {
+fn codes_of(out: Stdout, chip: u8, image: &mut [u8]) -> io::Result<()> {
     for code in 0..8u8 {
-        selected_by(chip, image, code);
+        selected_by(out, chip, image, code)?;
     }
+    Ok(())
 }
 
-fn tried(chip: u8, image: &mut [u8], at: usize, byte: u8) {
+fn tried(out: Stdout, chip: u8, image: &mut [u8], at: usize, byte: u8) -> io::Result<()> {
     banks::put(image, at, byte);
     if let Outcome::Accepted = identities::confirm(chip, image) {
-        figures_printing::space();
-        figures_printing::byte(byte);
+        figures_printing::space(out)?;
+        figures_printing::byte(out, byte)?;
     }
+    Ok(())
 }
 
 // Each of the 256 bytes.
-fn try_all(chip: u8, image: &mut [u8], at: usize) {
+fn try_all(out: Stdout, chip: u8, image: &mut [u8], at: usize) -> io::Result<()> {
     for byte in 0..=255u8 {
-        tried(chip, image, at, byte);
+        tried(out, chip, image, at, byte)?;
     }
+    Ok(())
 }
 
-fn takes(select: u8, at: usize) {
+fn takes(out: Stdout, select: u8, at: usize) -> io::Result<()> {
     let mut image = [0u8; 768];
-    begin_selected(5, &mut image, select);
-    figures_printing::text(b" at ");
-    figures_printing::position(at);
-    figures_printing::text(b" takes");
-    try_all(5, &mut image, at);
-    figures_printing::line_end();
+    begin_selected(out, 5, &mut image, select)?;
+    figures_printing::text(out, b" at ")?;
+    figures_printing::position(out, at)?;
+    figures_printing::text(out, b" takes")?;
+    try_all(out, 5, &mut image, at)?;
+    figures_printing::line_end(out)
 }
 
 // The vendor, chip and version registers.
-fn all_taken(select: u8) {
-    takes(select, 0x0D);
-    takes(select, 0x0E);
-    takes(select, 0x0F);
+fn all_taken(out: Stdout, select: u8) -> io::Result<()> {
+    takes(out, select, 0x0D)?;
+    takes(out, select, 0x0E)?;
+    takes(out, select, 0x0F)
 }
 
 // Chip 3 has no identity rule: its own image, manufacturer byte and all, is refused.
-fn without() {
+fn without(out: Stdout) -> io::Result<()> {
     let mut image = [0u8; 256];
     images::reset(3, &mut image);
-    begin(3);
-    figures_printing::text(b" power-on");
-    image_calls::identity(3, &image);
-    figures_printing::line_end();
+    begin(out, 3)?;
+    figures_printing::text(out, b" power-on")?;
+    image_calls::identity(out, 3, &image)?;
+    figures_printing::line_end(out)
 }
 
-pub fn print_all() {
+pub fn print_all(out: Stdout) -> io::Result<()> {
     let mut image = [0u8; 256];
-    at_power_on(1, &mut image);
-    at_power_on(2, &mut image);
+    at_power_on(out, 1, &mut image)?;
+    at_power_on(out, 2, &mut image)?;
     let mut of_4 = [0u8; 1280];
-    at_power_on(4, &mut of_4);
+    at_power_on(out, 4, &mut of_4)?;
     let mut of_5 = [0u8; 768];
-    at_power_on(5, &mut of_5);
-    codes_of(4, &mut of_4);
-    codes_of(5, &mut of_5);
-    all_taken(0x80);
-    all_taken(0x00);
-    without();
+    at_power_on(out, 5, &mut of_5)?;
+    codes_of(out, 4, &mut of_4)?;
+    codes_of(out, 5, &mut of_5)?;
+    all_taken(out, 0x80)?;
+    all_taken(out, 0x00)?;
+    without(out)
 }

@@ -1,6 +1,7 @@
 // The initialization bit of chip 3, in the lines of a write and of a read on the bus.
 use crate::bus;
 use figures_printing::FILL;
+use std::io::{self, Stdout};
 
 // The request's image.
 fn example() -> [u8; 256] {
@@ -14,42 +15,42 @@ fn example() -> [u8; 256] {
 }
 
 // What it holds where the request says so, and at 06h. The read of 01h clears that byte.
-fn read_back(image: &mut [u8]) {
-    bus::read(3, image, 0x00);
-    bus::read(3, image, 0x01);
-    bus::read(3, image, 0x05);
-    bus::read(3, image, 0x06);
-    bus::read(3, image, 0x08);
-    bus::read(3, image, 0x20);
-    bus::read(3, image, 0x2A);
-    bus::read(3, image, 0x3E);
-    bus::read(3, image, 0x90);
+fn read_back(out: Stdout, image: &mut [u8]) -> io::Result<()> {
+    bus::read(out, 3, image, 0x00)?;
+    bus::read(out, 3, image, 0x01)?;
+    bus::read(out, 3, image, 0x05)?;
+    bus::read(out, 3, image, 0x06)?;
+    bus::read(out, 3, image, 0x08)?;
+    bus::read(out, 3, image, 0x20)?;
+    bus::read(out, 3, image, 0x2A)?;
+    bus::read(out, 3, image, 0x3E)?;
+    bus::read(out, 3, image, 0x90)
 }
 
 // Its two writes, and a third: of 7Fh all but bit 5 is stored. What the first left is read back from a copy, so that the next two show what a write
 // changes and not what a read did.
-fn worked_example() {
+fn worked_example(out: Stdout) -> io::Result<()> {
     let mut old = example();
     let mut new = example();
-    bus::write(3, &mut old, &mut new, 0x00, 0xC1);
+    bus::write(out, 3, &mut old, &mut new, 0x00, 0xC1)?;
     let mut shown = new;
-    read_back(&mut shown);
-    bus::write(3, &mut old, &mut new, 0x00, 0x21);
-    bus::write(3, &mut old, &mut new, 0x00, 0x7F);
+    read_back(out, &mut shown)?;
+    bus::write(out, 3, &mut old, &mut new, 0x00, 0x21)?;
+    bus::write(out, 3, &mut old, &mut new, 0x00, 0x7F)
 }
 
 // The first write to an image whose bytes are all one.
-fn write_to(chip: u8, held: u8, address: u8, byte: u8) {
-    bus::write(chip, &mut [held; 256], &mut [held; 256], address, byte);
+fn write_to(out: Stdout, chip: u8, held: u8, address: u8, byte: u8) -> io::Result<()> {
+    bus::write(out, chip, &mut [held; 256], &mut [held; 256], address, byte)
 }
 
 // Bit 7 of 00h of chip 3 set before; clear in the byte that is written, and set in one that goes to another register; and of chips 1 and 2 bit 7 of FCh
 // and of 00h, which only stores.
-pub fn print_all() {
-    worked_example();
-    write_to(3, 0xFF, 0x00, 0x80);
-    write_to(3, FILL, 0x00, 0x7F);
-    write_to(3, FILL, 0x08, 0x80);
-    write_to(1, FILL, 0xFC, 0xFF);
-    write_to(2, FILL, 0x00, 0xFF);
+pub fn print_all(out: Stdout) -> io::Result<()> {
+    worked_example(out)?;
+    write_to(out, 3, 0xFF, 0x00, 0x80)?;
+    write_to(out, 3, FILL, 0x00, 0x7F)?;
+    write_to(out, 3, FILL, 0x08, 0x80)?;
+    write_to(out, 1, FILL, 0xFC, 0xFF)?;
+    write_to(out, 2, FILL, 0x00, 0xFF)
 }

@@ -8,11 +8,14 @@ mod image_calls;
 mod initialization;
 mod rows;
 
-fn main() {
-    rows::print_all();
-    image_calls::print_all();
-    image_calls::print_stored();
-    banks::print_all();
-    initialization::print_all();
-    identity_bits::print_all();
+use std::io;
+
+fn main(rt: HostRuntime) -> io::Result<()> {
+    let out = rt.stdout();
+    rows::print_all(out)?;
+    image_calls::print_all(out)?;
+    image_calls::print_stored(out)?;
+    banks::print_all(out)?;
+    initialization::print_all(out)?;
+    identity_bits::print_all(out)
 }

@@ -1,45 +1,47 @@
 // Every row of every card: `row C AA WW CC PP`, with three digits of the position where an image has more than one bank.
 use pages::{Chip, Named};
+use std::io::{self, Stdout};
 
-fn place(size: usize, position: usize) {
-    figures_printing::space();
+fn place(out: Stdout, size: usize, position: usize) -> io::Result<()> {
+    figures_printing::space(out)?;
     if size > 256 {
-        figures_printing::position(position);
+        figures_printing::position(out, position)
     } else {
-        figures_printing::byte((position % 256) as u8);
+        figures_printing::byte(out, (position % 256) as u8)
     }
 }
 
-fn column(b: u8) {
-    figures_printing::space();
-    figures_printing::byte(b);
+fn column(out: Stdout, b: u8) -> io::Result<()> {
+    figures_printing::space(out)?;
+    figures_printing::byte(out, b)
 }
 
-fn row(number: u8, chip: Chip, size: usize, position: usize) {
+fn row(out: Stdout, number: u8, chip: Chip, size: usize, position: usize) -> io::Result<()> {
     let masks = cards::masks_of(chip, position);
-    figures_printing::labelled(b"row ", number as u64);
-    place(size, position);
-    column(masks.writable);
-    column(masks.clears);
-    column(cards::power_on_of(chip, position));
-    figures_printing::line_end();
+    figures_printing::labelled(out, b"row ", number as u64)?;
+    place(out, size, position)?;
+    column(out, masks.writable)?;
+    column(out, masks.clears)?;
+    column(out, cards::power_on_of(chip, position))?;
+    figures_printing::line_end(out)
 }
 
-fn card(number: u8) {
+fn card(out: Stdout, number: u8) -> io::Result<()> {
     let Named::Known(chip) = cards::chip_of(number) else {
-        return;
+        return Ok(());
     };
     let sizes = cards::sizes_of(chip);
     let size = sizes.image;
     for position in 0..size {
-        row(number, chip, size, position);
+        row(out, number, chip, size, position)?;
     }
+    Ok(())
 }
 
-pub fn print_all() {
-    card(1);
-    card(2);
-    card(3);
-    card(4);
-    card(5);
+pub fn print_all(out: Stdout) -> io::Result<()> {
+    card(out, 1)?;
+    card(out, 2)?;
+    card(out, 3)?;
+    card(out, 4)?;
+    card(out, 5)
 }

@@ -6,6 +6,7 @@ mod nct7904d;
 mod sensors;
 
 use readings::{Bytes, Steps};
+use std::io::{self, Stdout};
 
 fn high(word: u16) -> u8 {
     (word / 256) as u8
@@ -15,87 +16,94 @@ fn low(word: u16) -> u8 {
     (word % 256) as u8
 }
 
-fn begin(width: u8) {
-    figures_printing::labelled(b"temperature width ", width as u64);
+fn begin(out: Stdout, width: u8) -> io::Result<()> {
+    figures_printing::labelled(out, b"temperature width ", width as u64)
 }
 
-fn steps(n: i16) {
-    figures_printing::text(b" steps ");
-    figures_printing::signed(n);
+fn steps(out: Stdout, n: i16) -> io::Result<()> {
+    figures_printing::text(out, b" steps ")?;
+    figures_printing::signed(out, n)
 }
 
-fn bytes(high: u8, low: u8) {
-    figures_printing::text(b" bytes ");
-    figures_printing::byte(high);
-    figures_printing::byte(low);
+fn bytes(out: Stdout, high: u8, low: u8) -> io::Result<()> {
+    figures_printing::text(out, b" bytes ")?;
+    figures_printing::byte(out, high)?;
+    figures_printing::byte(out, low)
 }
 
-fn read(width: u8, high: u8, low: u8) {
+fn read(out: Stdout, width: u8, high: u8, low: u8) -> io::Result<()> {
     match readings::steps_of(width, high, low) {
-        Steps::Refused(r) => figures_printing::refused(r),
-        Steps::Counted(n) => steps(n),
+        Steps::Refused(r) => figures_printing::refused(out, r),
+        Steps::Counted(n) => steps(out, n),
     }
 }
 
-fn write_and_read(width: u8, n: i16) {
+fn write_and_read(out: Stdout, width: u8, n: i16) -> io::Result<()> {
     match readings::bytes_of(width, n) {
-        Bytes::Refused(r) => figures_printing::refused(r),
+        Bytes::Refused(r) => figures_printing::refused(out, r),
         Bytes::Pair(high, low) => {
-            bytes(high, low);
-            read(width, high, low);
+            bytes(out, high, low)?;
+            read(out, width, high, low)
         }
     }
 }
 
-fn from_bytes(width: u8, word: u16) {
-    begin(width);
-    bytes(high(word), low(word));
-    read(width, high(word), low(word));
-    figures_printing::line_end();
+fn from_bytes(out: Stdout, width: u8, word: u16) -> io::Result<()> {
+    begin(out, width)?;
+    bytes(out, high(word), low(word))?;
+    read(out, width, high(word), low(word))?;
+    figures_printing::line_end(out)
 }
 
-fn from_steps(width: u8, n: i16) {
-    begin(width);
-    steps(n);
-    write_and_read(width, n);
-    figures_printing::line_end();
+fn from_steps(out: Stdout, width: u8, n: i16) -> io::Result<()> {
+    begin(out, width)?;
+    steps(out, n)?;
+    write_and_read(out, width, n)?;
+    figures_printing::line_end(out)
 }
 
 // The rules paper's figures.
-fn figures() {
-    from_bytes(12, 0x7D00);
-    from_bytes(12, 0xFFF0);
-    from_bytes(12, 0xC900);
-    from_bytes(9, 0xC900);
-    from_bytes(11, 0xE7A0);
-    from_steps(9, 32);
-    from_steps(9, 256);
-    from_steps(9, 255);
-    from_steps(9, -256);
+fn figures(out: Stdout) -> io::Result<()> {
+    from_bytes(out, 12, 0x7D00)?;
+    from_bytes(out, 12, 0xFFF0)?;
+    from_bytes(out, 12, 0xC900)?;
+    from_bytes(out, 9, 0xC900)?;
+    from_bytes(out, 11, 0xE7A0)?;
+    from_steps(out, 9, 32)?;
+    from_steps(out, 9, 256)?;
+    from_steps(out, 9, 255)?;
+    from_steps(out, 9, -256)
 }
 
 // The last steps that fit a width and the first that don't, at both ends.
-fn ends(width: u8, below: i16, least: i16, greatest: i16, above: i16) {
-    from_steps(width, below);
-    from_steps(width, least);
-    from_steps(width, -1);
-    from_steps(width, 0);
-    from_steps(width, greatest);
-    from_steps(width, above);
+fn ends(
+    out: Stdout,
+    width: u8,
+    below: i16,
+    least: i16,
+    greatest: i16,
+    above: i16,
+) -> io::Result<()> {
+    from_steps(out, width, below)?;
+    from_steps(out, width, least)?;
+    from_steps(out, width, -1)?;
+    from_steps(out, width, 0)?;
+    from_steps(out, width, greatest)?;
+    from_steps(out, width, above)
 }
 
 // 32,767 steps fit no width, and yet it is the width that is refused.
-fn no_width(width: u8) {
-    from_bytes(width, 0x7D00);
-    from_steps(width, 0);
-    from_steps(width, 32767);
+fn no_width(out: Stdout, width: u8) -> io::Result<()> {
+    from_bytes(out, width, 0x7D00)?;
+    from_steps(out, width, 0)?;
+    from_steps(out, width, 32767)
 }
 
-fn voltage(word: u16) {
-    figures_printing::text(b"voltage word ");
-    figures_printing::word(word);
-    figures_printing::labelled(b" microvolts ", readings::microvolts(word) as u64);
-    figures_printing::line_end();
+fn voltage(out: Stdout, word: u16) -> io::Result<()> {
+    figures_printing::text(out, b"voltage word ")?;
+    figures_printing::word(out, word)?;
+    figures_printing::labelled(out, b" microvolts ", readings::microvolts(word) as u64)?;
+    figures_printing::line_end(out)
 }
 
 // Of the words so far: how many came back from their steps, and the sum of the steps in 16 bits.
@@ -149,44 +157,45 @@ fn tally_of(width: u8) -> Tally {
 }
 
 // All words of a width in one line.
-fn sweep(width: u8) {
+fn sweep(out: Stdout, width: u8) -> io::Result<()> {
     let tally = tally_of(width);
-    begin(width);
-    figures_printing::labelled(b" words back ", tally.back);
-    figures_printing::labelled(b" sum of steps ", tally.sum as u64);
-    figures_printing::line_end();
+    begin(out, width)?;
+    figures_printing::labelled(out, b" words back ", tally.back)?;
+    figures_printing::labelled(out, b" sum of steps ", tally.sum as u64)?;
+    figures_printing::line_end(out)
 }
 
-fn temperatures() {
-    figures();
-    ends(8, -129, -128, 127, 128);
-    ends(9, -257, -256, 255, 256);
-    ends(11, -1025, -1024, 1023, 1024);
-    ends(12, -2049, -2048, 2047, 2048);
-    no_width(0);
-    no_width(7);
-    no_width(10);
-    no_width(13);
-    no_width(255);
-    sweep(8);
-    sweep(9);
-    sweep(11);
-    sweep(12);
+fn temperatures(out: Stdout) -> io::Result<()> {
+    figures(out)?;
+    ends(out, 8, -129, -128, 127, 128)?;
+    ends(out, 9, -257, -256, 255, 256)?;
+    ends(out, 11, -1025, -1024, 1023, 1024)?;
+    ends(out, 12, -2049, -2048, 2047, 2048)?;
+    no_width(out, 0)?;
+    no_width(out, 7)?;
+    no_width(out, 10)?;
+    no_width(out, 13)?;
+    no_width(out, 255)?;
+    sweep(out, 8)?;
+    sweep(out, 9)?;
+    sweep(out, 11)?;
+    sweep(out, 12)
 }
 
-fn voltages() {
-    voltage(0x0000);
-    voltage(0x003F);
-    voltage(0x0040);
-    voltage(0x7FFF);
-    voltage(0x8000);
-    voltage(0xFFC0);
-    voltage(0xFFFF);
+fn voltages(out: Stdout) -> io::Result<()> {
+    voltage(out, 0x0000)?;
+    voltage(out, 0x003F)?;
+    voltage(out, 0x0040)?;
+    voltage(out, 0x7FFF)?;
+    voltage(out, 0x8000)?;
+    voltage(out, 0xFFC0)?;
+    voltage(out, 0xFFFF)
 }
 
-fn main() {
-    temperatures();
-    sensors::print_all();
-    voltages();
-    nct7904d::print_all();
+fn main(rt: HostRuntime) -> io::Result<()> {
+    let out = rt.stdout();
+    temperatures(out)?;
+    sensors::print_all(out)?;
+    voltages(out)?;
+    nct7904d::print_all(out)
 }

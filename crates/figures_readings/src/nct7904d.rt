@@ -2,39 +2,40 @@
 // `temperature right_aligned bytes HHLL steps N`, `temperature right_aligned steps N bytes HHLL steps N`, `voltage input AA bytes HHLL microvolts N`.
 use crate::Tally;
 use readings::Bytes;
+use std::io::{self, Stdout};
 
-fn begin() {
-    figures_printing::text(b"temperature right-aligned");
+fn begin(out: Stdout) -> io::Result<()> {
+    figures_printing::text(out, b"temperature right-aligned")
 }
 
-fn from_bytes(high: u8, low: u8) {
-    begin();
-    crate::bytes(high, low);
-    crate::steps(right_readings::right_steps(high, low));
-    figures_printing::line_end();
+fn from_bytes(out: Stdout, high: u8, low: u8) -> io::Result<()> {
+    begin(out)?;
+    crate::bytes(out, high, low)?;
+    crate::steps(out, right_readings::right_steps(high, low))?;
+    figures_printing::line_end(out)
 }
 
 // The low bits that do not count as zeros, and as ones.
-fn ignoring(high: u8, low: u8) {
-    from_bytes(high, low);
-    from_bytes(high, low | 0xF8);
+fn ignoring(out: Stdout, high: u8, low: u8) -> io::Result<()> {
+    from_bytes(out, high, low)?;
+    from_bytes(out, high, low | 0xF8)
 }
 
-fn write_and_read(n: i16) {
+fn write_and_read(out: Stdout, n: i16) -> io::Result<()> {
     match right_readings::right_bytes(n) {
-        Bytes::Refused(r) => figures_printing::refused(r),
+        Bytes::Refused(r) => figures_printing::refused(out, r),
         Bytes::Pair(high, low) => {
-            crate::bytes(high, low);
-            crate::steps(right_readings::right_steps(high, low));
+            crate::bytes(out, high, low)?;
+            crate::steps(out, right_readings::right_steps(high, low))
         }
     }
 }
 
-fn from_steps(n: i16) {
-    begin();
-    crate::steps(n);
-    write_and_read(n);
-    figures_printing::line_end();
+fn from_steps(out: Stdout, n: i16) -> io::Result<()> {
+    begin(out)?;
+    crate::steps(out, n)?;
+    write_and_read(out, n)?;
+    figures_printing::line_end(out)
 }
 
 fn are_bytes(n: i16, word: u16) -> bool {
@@ -61,67 +62,78 @@ fn tally_of_all() -> Tally {
     tally
 }
 
-fn sweep() {
+fn sweep(out: Stdout) -> io::Result<()> {
     let tally = tally_of_all();
-    begin();
-    figures_printing::labelled(b" words back ", tally.back);
-    figures_printing::labelled(b" sum of steps ", tally.sum as u64);
-    figures_printing::line_end();
+    begin(out)?;
+    figures_printing::labelled(out, b" words back ", tally.back)?;
+    figures_printing::labelled(out, b" sum of steps ", tally.sum as u64)?;
+    figures_printing::line_end(out)
 }
 
-fn voltage(input: u8, high: u8, low: u8) {
-    figures_printing::text(b"voltage input ");
-    figures_printing::byte(input);
-    crate::bytes(high, low);
+fn voltage(out: Stdout, input: u8, high: u8, low: u8) -> io::Result<()> {
+    figures_printing::text(out, b"voltage input ")?;
+    figures_printing::byte(out, input)?;
+    crate::bytes(out, high, low)?;
     figures_printing::labelled(
+        out,
         b" microvolts ",
         right_readings::input_microvolts(input, high, low) as u64,
-    );
-    figures_printing::line_end();
+    )?;
+    figures_printing::line_end(out)
 }
 
 // Every voltage's two addresses, LTD's, and those around them.
-fn inputs() {
+fn inputs(out: Stdout) -> io::Result<()> {
     for input in 0x3E..=0x6Bu8 {
-        voltage(input, 0x19, 0x06);
+        voltage(out, input, 0x19, 0x06)?;
     }
+    Ok(())
 }
 
 // No count, one, all with the reserved bits, and the reserved bits alone.
-fn counts(input: u8) {
-    voltage(input, 0x00, 0x00);
-    voltage(input, 0x00, 0x01);
-    voltage(input, 0xFF, 0xFF);
-    voltage(input, 0x00, 0xF8);
+fn counts(out: Stdout, input: u8) -> io::Result<()> {
+    voltage(out, input, 0x00, 0x00)?;
+    voltage(out, input, 0x00, 0x01)?;
+    voltage(out, input, 0xFF, 0xFF)?;
+    voltage(out, input, 0x00, 0xF8)
 }
 
-// Some figures, the sheet's table of temperatures, and the ends of what fits.
-pub fn print_all() {
-    ignoring(0xE6, 0x02);
-    ignoring(0x80, 0x00);
-    ignoring(0x7F, 0x07);
-    ignoring(0xFF, 0x07);
-    ignoring(0x19, 0x06);
-    ignoring(0x02, 0x02);
-    ignoring(0x01, 0x01);
-    ignoring(0x00, 0x00);
-    ignoring(0xFE, 0x07);
-    ignoring(0xFD, 0x06);
-    ignoring(0x80, 0x01);
-    from_steps(-32768);
-    from_steps(-1025);
-    from_steps(-1024);
-    from_steps(-206);
-    from_steps(-1);
-    from_steps(0);
-    from_steps(1023);
-    from_steps(1024);
-    from_steps(32767);
-    sweep();
-    inputs();
-    counts(0x40);
-    counts(0x5C);
-    counts(0x62);
-    voltage(0x00, 0xFF, 0xFF);
-    voltage(0xFF, 0xFF, 0xFF);
+// Some figures, the sheet's table of temperatures, and the ends of the bytes.
+fn some_bytes(out: Stdout) -> io::Result<()> {
+    ignoring(out, 0xE6, 0x02)?;
+    ignoring(out, 0x80, 0x00)?;
+    ignoring(out, 0x7F, 0x07)?;
+    ignoring(out, 0xFF, 0x07)?;
+    ignoring(out, 0x19, 0x06)?;
+    ignoring(out, 0x02, 0x02)?;
+    ignoring(out, 0x01, 0x01)?;
+    ignoring(out, 0x00, 0x00)?;
+    ignoring(out, 0xFE, 0x07)?;
+    ignoring(out, 0xFD, 0x06)?;
+    ignoring(out, 0x80, 0x01)
+}
+
+// The ends of what fits, and some figures between.
+fn some_steps(out: Stdout) -> io::Result<()> {
+    from_steps(out, -32768)?;
+    from_steps(out, -1025)?;
+    from_steps(out, -1024)?;
+    from_steps(out, -206)?;
+    from_steps(out, -1)?;
+    from_steps(out, 0)?;
+    from_steps(out, 1023)?;
+    from_steps(out, 1024)?;
+    from_steps(out, 32767)
+}
+
+pub fn print_all(out: Stdout) -> io::Result<()> {
+    some_bytes(out)?;
+    some_steps(out)?;
+    sweep(out)?;
+    inputs(out)?;
+    counts(out, 0x40)?;
+    counts(out, 0x5C)?;
+    counts(out, 0x62)?;
+    voltage(out, 0x00, 0xFF, 0xFF)?;
+    voltage(out, 0xFF, 0xFF, 0xFF)
 }

@@ -6,6 +6,7 @@ ghost use Rattle.figures_readings.specs.Sensors.{sensor_of};
 
 use figures_printing::FILL;
 use states::ByteRead;
+use std::io::{self, Stdout};
 use watch::{Behaviour, Watch};
 
 // Where a sensor's temperature stands.
@@ -41,48 +42,48 @@ fn on_chip() -> Sensor
 }
 
 // Both bytes are read from the image, with a watch beside it. No sensor's register is a status register: the reads change neither.
-fn held(chip: u8, image: &mut [u8], sensor: Sensor) {
-    figures_printing::labelled(b"temperature chip ", chip as u64);
-    figures_printing::text(b" at ");
-    figures_printing::byte(sensor.high);
-    figures_printing::space();
-    figures_printing::byte(sensor.low);
+fn held(out: Stdout, chip: u8, image: &mut [u8], sensor: Sensor) -> io::Result<()> {
+    figures_printing::labelled(out, b"temperature chip ", chip as u64)?;
+    figures_printing::text(out, b" at ")?;
+    figures_printing::byte(out, sensor.high)?;
+    figures_printing::space(out)?;
+    figures_printing::byte(out, sensor.low)?;
     let watch = Watch::new(Behaviour::Default);
     let ByteRead::Byte(high, next) = states::read(chip, image, sensor.high, watch) else {
-        return;
+        return Ok(());
     };
     let ByteRead::Byte(low, _) = states::read(chip, image, sensor.low, next) else {
-        return;
+        return Ok(());
     };
-    crate::bytes(high, low);
-    crate::read(sensor.width, high, low);
-    figures_printing::line_end();
+    crate::bytes(out, high, low)?;
+    crate::read(out, sensor.width, high, low)?;
+    figures_printing::line_end(out)
 }
 
 // Every byte but theirs is 5Ah, also that of LTD at 04h, and would make another temperature.
-fn remote_diodes(rtd1: u8, rtd2: u8, rtd3: u8, low: u8) {
+fn remote_diodes(out: Stdout, rtd1: u8, rtd2: u8, rtd3: u8, low: u8) -> io::Result<()> {
     let mut image = [FILL; 256];
     image[0x01] = rtd1;
     image[0x02] = rtd2;
     image[0x03] = rtd3;
     image[0x05] = low;
-    held(1, &mut image, remote_diode(0));
-    held(1, &mut image, remote_diode(1));
-    held(1, &mut image, remote_diode(2));
+    held(out, 1, &mut image, remote_diode(0))?;
+    held(out, 1, &mut image, remote_diode(1))?;
+    held(out, 1, &mut image, remote_diode(2))
 }
 
-fn nct80(high: u8, low: u8) {
+fn nct80(out: Stdout, high: u8, low: u8) -> io::Result<()> {
     let mut image = [FILL; 256];
     image[0x27] = high;
     image[0x06] = low;
-    held(3, &mut image, on_chip());
+    held(out, 3, &mut image, on_chip())
 }
 
 // The low bits that do not count are ones: E7A0h of the rules paper and 1.125 and -127.875 degrees of the data sheet; 7D00h, C900h, FFF0h.
-pub fn print_all() {
-    remote_diodes(0xE7, 0x19, 0x80, 0xBF);
-    remote_diodes(0x7F, 0x01, 0x80, 0x3F);
-    nct80(0x7D, 0x0F);
-    nct80(0xC9, 0x0F);
-    nct80(0xFF, 0xFF);
+pub fn print_all(out: Stdout) -> io::Result<()> {
+    remote_diodes(out, 0xE7, 0x19, 0x80, 0xBF)?;
+    remote_diodes(out, 0x7F, 0x01, 0x80, 0x3F)?;
+    nct80(out, 0x7D, 0x0F)?;
+    nct80(out, 0xC9, 0x0F)?;
+    nct80(out, 0xFF, 0xFF)
 }

@@ -6,6 +6,7 @@ ghost use Rattle.figures_samples.specs.Samples.{pointed as Samples·pointed, slo
 
 use curves::{NO_SLOPE, NO_STEPS, Plan, SlopeValues, StepValues};
 use plans::Asked;
+use std::io::{self, Stdout};
 
 // A plan with the values of a slope and a point count, which is a matter of chip 5; another chip number may stand on it.
 pub fn pointed(
@@ -233,36 +234,36 @@ pub fn refused(k: u8) -> Plan
     }
 }
 
-pub fn head(plan: Plan) {
-    figures_printing::labelled(b" chip ", plan.chip as u64);
-    figures_printing::labelled(b" table ", plan.table as u64);
+pub fn head(out: Stdout, plan: Plan) -> io::Result<()> {
+    figures_printing::labelled(out, b" chip ", plan.chip as u64)?;
+    figures_printing::labelled(out, b" table ", plan.table as u64)
 }
 
-fn count(count: u16) {
-    figures_printing::space();
-    figures_printing::word(count);
+fn count(out: Stdout, count: u16) -> io::Result<()> {
+    figures_printing::space(out)?;
+    figures_printing::word(out, count)
 }
 
 // ` chip C table T points N`, then in hexadecimal eight temperatures, critical, eight duties, B1 to B4, C1 to C5.
-pub fn show(plan: Plan) {
-    head(plan);
-    figures_printing::labelled(b" points ", plan.points as u64);
+pub fn show(out: Stdout, plan: Plan) -> io::Result<()> {
+    head(out, plan)?;
+    figures_printing::labelled(out, b" points ", plan.points as u64)?;
     let slope = plan.slope;
     let temperatures = slope.temperatures;
-    figures_printing::bytes(&temperatures);
-    figures_printing::space();
-    figures_printing::byte(slope.critical);
+    figures_printing::bytes(out, &temperatures)?;
+    figures_printing::space(out)?;
+    figures_printing::byte(out, slope.critical)?;
     let duties = slope.duties;
-    figures_printing::bytes(&duties);
+    figures_printing::bytes(out, &duties)?;
     let steps = plan.steps;
     let bounds = steps.bounds;
-    figures_printing::bytes(&bounds);
+    figures_printing::bytes(out, &bounds)?;
     let counts = steps.counts;
-    count(counts[0]);
-    count(counts[1]);
-    count(counts[2]);
-    count(counts[3]);
-    count(counts[4]);
+    count(out, counts[0])?;
+    count(out, counts[1])?;
+    count(out, counts[2])?;
+    count(out, counts[3])?;
+    count(out, counts[4])
 }
 
 fn has_duties(chip: u8) -> bool {
@@ -273,26 +274,25 @@ fn has_duties(chip: u8) -> bool {
 }
 
 // A temperature is signed for chips 1, 4 and 5.
-pub fn degrees(chip: u8, t: u8) {
+pub fn degrees(out: Stdout, chip: u8, t: u8) -> io::Result<()> {
     if has_duties(chip) {
         if t >= 128 {
-            figures_printing::labelled(b"-", 256 - t as u64);
-            return;
+            return figures_printing::labelled(out, b"-", 256 - t as u64);
         }
     }
-    figures_printing::decimal(t as u64);
+    figures_printing::decimal(out, t as u64)
 }
 
 // A duty in decimal, a count in hexadecimal.
-pub fn speed(chip: u8, asked: Asked) {
+pub fn speed(out: Stdout, chip: u8, asked: Asked) -> io::Result<()> {
     match asked {
-        Asked::Refused(r) => figures_printing::refused(r),
+        Asked::Refused(r) => figures_printing::refused(out, r),
         Asked::Speed(s) => {
-            figures_printing::space();
+            figures_printing::space(out)?;
             if has_duties(chip) {
-                figures_printing::decimal(s as u64);
+                figures_printing::decimal(out, s as u64)
             } else {
-                figures_printing::word(s);
+                figures_printing::word(out, s)
             }
         }
     }

@@ -4,6 +4,7 @@
 // temperatures `T OLD NEW`: what a table asks before and after a play of table 1, which moves the critical temperature of all six.
 use crate::script_lines;
 use curves::Plan;
+use std::io::{self, Stdout};
 
 const SLOPED: [u8; 5] = [0xEC, 38, 43, 53, 60];
 
@@ -50,57 +51,61 @@ fn copy(old: &[u8], new: &mut [u8]) {
     }
 }
 
-fn speeds_at(plan: Plan, old: &[u8], new: &[u8], t: u8) {
-    figures_printing::text(b", ");
-    figures_samples::degrees(plan.chip, t);
+fn speeds_at(out: Stdout, plan: Plan, old: &[u8], new: &[u8], t: u8) -> io::Result<()> {
+    figures_printing::text(out, b", ")?;
+    figures_samples::degrees(out, plan.chip, t)?;
     figures_samples::speed(
+        out,
         plan.chip,
         plans::asked_of_image(plan.chip, plan.table, old, t),
-    );
+    )?;
     figures_samples::speed(
+        out,
         plan.chip,
         plans::asked_of_image(plan.chip, plan.table, new, t),
-    );
-    figures_samples::speed(plan.chip, plans::asked_of_plan(plan, t));
+    )?;
+    figures_samples::speed(out, plan.chip, plans::asked_of_plan(plan, t))
 }
 
-fn speeds(plan: Plan, old: &[u8], new: &[u8]) {
+fn speeds(out: Stdout, plan: Plan, old: &[u8], new: &[u8]) -> io::Result<()> {
     let at = temperatures(plan.chip);
     for k in 0..5 {
-        speeds_at(plan, old, new, at[k]);
+        speeds_at(out, plan, old, new, at[k])?;
     }
+    Ok(())
 }
 
 // How many bytes changed between two images, and the speeds that they ask beside the plan's.
-pub fn compared(plan: Plan, old: &[u8], new: &[u8]) {
-    figures_printing::labelled(b" changed ", changed(old, new));
-    speeds(plan, old, new);
+pub fn compared(out: Stdout, plan: Plan, old: &[u8], new: &[u8]) -> io::Result<()> {
+    figures_printing::labelled(out, b" changed ", changed(old, new))?;
+    speeds(out, plan, old, new)
 }
 
-fn stop_on(plan: Plan, old: &[u8], new: &mut [u8], count: usize) {
+fn stop_on(out: Stdout, plan: Plan, old: &[u8], new: &mut [u8], count: usize) -> io::Result<()> {
     copy(old, new);
-    figures_printing::text(b"stop");
-    figures_samples::head(plan);
-    figures_printing::labelled(b" count ", count as u64);
-    script_lines::made(plays::play(plan, new, count));
-    compared(plan, old, new);
-    figures_printing::line_end();
+    figures_printing::text(out, b"stop")?;
+    figures_samples::head(out, plan)?;
+    figures_printing::labelled(out, b" count ", count as u64)?;
+    script_lines::made(out, plays::play(plan, new, count))?;
+    compared(out, plan, old, new)?;
+    figures_printing::line_end(out)
 }
 
 // Played on a copy of the image.
-fn stop(plan: Plan, old: &[u8], count: usize) {
+fn stop(out: Stdout, plan: Plan, old: &[u8], count: usize) -> io::Result<()> {
     let mut new = [0u8; 1280];
     if old.len() <= 1280 {
-        stop_on(plan, old, &mut new[..old.len()], count);
+        stop_on(out, plan, old, &mut new[..old.len()], count)?;
     }
+    Ok(())
 }
 
 // At each number of writes up to one more than there are, and at the greatest number.
-fn stops(plan: Plan, old: &[u8], counts: usize) {
+fn stops(out: Stdout, plan: Plan, old: &[u8], counts: usize) -> io::Result<()> {
     for count in 0..counts {
-        stop(plan, old, count);
+        stop(out, plan, old, count)?;
     }
-    stop(plan, old, 0xFFFFFFFFFFFFFFFF);
+    stop(out, plan, old, 0xFFFFFFFFFFFFFFFF)
 }
 
 pub fn power_on(chip: u8) -> [u8; 256] {
@@ -151,18 +156,18 @@ pub fn earlier() -> [u8; 256] {
 }
 
 // Of chips 1 and 2.
-fn one_bank() {
+fn one_bank(out: Stdout) -> io::Result<()> {
     let slope = slope(1, 1, 65);
-    stops(slope, &power_on(1), 15);
+    stops(out, slope, &power_on(1), 15)?;
     let steps = stepped();
-    stops(steps, &power_on(2), 26);
-    stops(steps, &earlier(), 26);
+    stops(out, steps, &power_on(2), 26)?;
+    stops(out, steps, &earlier(), 26)?;
     // The image of another chip, and an image with one bit of its identity turned over: nothing is written.
-    stop(slope, &power_on(2), 13);
-    stop(steps, &power_on(1), 24);
+    stop(out, slope, &power_on(2), 13)?;
+    stop(out, steps, &power_on(1), 24)?;
     let mut image = power_on(1);
     image[0xFF] = image[0xFF] ^ 0x10;
-    stop(slope, &image, 13);
+    stop(out, slope, &image, 13)
 }
 
 fn power_on_banked(select: u8) -> [u8; 1280] {
@@ -188,15 +193,15 @@ pub fn unordered() -> [u8; 1280] {
 }
 
 // Of chip 4.
-fn banked() {
-    stops(slope(4, 1, 95), &power_on_banked(0), 16);
-    stops(slope(4, 7, 95), &unordered(), 16);
+fn banked(out: Stdout) -> io::Result<()> {
+    stops(out, slope(4, 1, 95), &power_on_banked(0), 16)?;
+    stops(out, slope(4, 7, 95), &unordered(), 16)?;
     // An image of another length, and one with one bit of its identity turned over: nothing is written.
-    stop(slope(4, 1, 95), &power_on(1), 14);
-    stop(slope(1, 1, 65), &power_on_banked(0), 13);
+    stop(out, slope(4, 1, 95), &power_on(1), 14)?;
+    stop(out, slope(1, 1, 65), &power_on_banked(0), 13)?;
     let mut image = unordered();
     image[0x7C] = image[0x7C] ^ 0x10;
-    stop(slope(4, 7, 95), &image, 14);
+    stop(out, slope(4, 7, 95), &image, 14)
 }
 
 fn power_on_seven(select: u8) -> [u8; 768] {
@@ -229,95 +234,110 @@ pub fn unordered_seven() -> [u8; 768] {
 }
 
 // Of the unordered image with one byte of its identity changed.
-fn stop_with(at: usize, byte: u8) {
+fn stop_with(out: Stdout, at: usize, byte: u8) -> io::Result<()> {
     let mut image = unordered_seven();
     put(&mut image, at, byte);
-    stop(seven(4), &image, 25);
+    stop(out, seven(4), &image, 25)
 }
 
 // Of chip 5.
-fn seven_points() {
-    stops(seven(1), &power_on_seven(0x80), 27);
-    stops(seven(4), &unordered_seven(), 27);
+fn seven_points(out: Stdout) -> io::Result<()> {
+    stops(out, seven(1), &power_on_seven(0x80), 27)?;
+    stops(out, seven(4), &unordered_seven(), 27)?;
     // Images of another length: nothing is written.
-    stop(seven(1), &power_on_banked(0), 25);
-    stop(slope(4, 1, 95), &power_on_seven(0x80), 14);
+    stop(out, seven(1), &power_on_banked(0), 25)?;
+    stop(out, slope(4, 1, 95), &power_on_seven(0x80), 14)?;
     // Version 12h is confirmed, 13h is not, and the vendor byte's low half is not.
-    stop_with(0x0F, 0x12);
-    stop_with(0x0F, 0x13);
-    stop_with(0x0D, 0xA3);
+    stop_with(out, 0x0F, 0x12)?;
+    stop_with(out, 0x0F, 0x13)?;
+    stop_with(out, 0x0D, 0xA3)
 }
 
-fn played(plan: Plan, select: u8, old: &[u8], new: &mut [u8]) {
-    figures_printing::text(b"played");
-    figures_samples::head(plan);
-    figures_printing::text(b" select ");
-    figures_printing::byte(select);
-    script_lines::made(plays::play(plan, new, 25));
-    figures_printing::text(b" changed");
-    figures_printing::changes(old, new);
-    figures_printing::line_end();
+fn played(out: Stdout, plan: Plan, select: u8, old: &[u8], new: &mut [u8]) -> io::Result<()> {
+    figures_printing::text(out, b"played")?;
+    figures_samples::head(out, plan)?;
+    figures_printing::text(out, b" select ")?;
+    figures_printing::byte(out, select)?;
+    script_lines::made(out, plays::play(plan, new, 25))?;
+    figures_printing::text(out, b" changed")?;
+    figures_printing::changes(out, old, new)?;
+    figures_printing::line_end(out)
 }
 
-fn played_4(table: u8) {
+fn played_4(out: Stdout, table: u8) -> io::Result<()> {
     let old = power_on_banked(table % 8);
     let mut new = old;
-    played(figures_samples::banked(table), table % 8, &old, &mut new);
+    played(
+        out,
+        figures_samples::banked(table),
+        table % 8,
+        &old,
+        &mut new,
+    )
 }
 
-fn played_5(table: u8) {
+fn played_5(out: Stdout, table: u8) -> io::Result<()> {
     let select = 0xA8 | table % 8;
     let old = power_on_seven(select);
     let mut new = old;
-    played(figures_samples::other_seven(table), select, &old, &mut new);
+    played(
+        out,
+        figures_samples::other_seven(table),
+        select,
+        &old,
+        &mut new,
+    )
 }
 
 // From another bank each time.
-fn all_played_of_4() {
+fn all_played_of_4(out: Stdout) -> io::Result<()> {
     for table in 1..11u8 {
-        played_4(table);
+        played_4(out, table)?;
     }
+    Ok(())
 }
 
-fn all_played_of_5() {
+fn all_played_of_5(out: Stdout) -> io::Result<()> {
     for table in 1..7u8 {
-        played_5(table);
+        played_5(out, table)?;
     }
+    Ok(())
 }
 
-fn before_and_after(table: u8, old: &[u8], new: &[u8], t: u8) {
-    figures_printing::text(b", ");
-    figures_samples::degrees(5, t);
-    figures_samples::speed(5, plans::asked_of_image(5, table, old, t));
-    figures_samples::speed(5, plans::asked_of_image(5, table, new, t));
+fn before_and_after(out: Stdout, table: u8, old: &[u8], new: &[u8], t: u8) -> io::Result<()> {
+    figures_printing::text(out, b", ")?;
+    figures_samples::degrees(out, 5, t)?;
+    figures_samples::speed(out, 5, plans::asked_of_image(5, table, old, t))?;
+    figures_samples::speed(out, 5, plans::asked_of_image(5, table, new, t))
 }
 
-fn shared_by(table: u8, old: &[u8], new: &[u8]) {
-    figures_printing::labelled(b"shared chip 5 table ", table as u64);
-    before_and_after(table, old, new, 53);
-    before_and_after(table, old, new, 74);
-    before_and_after(table, old, new, 75);
-    figures_printing::line_end();
+fn shared_by(out: Stdout, table: u8, old: &[u8], new: &[u8]) -> io::Result<()> {
+    figures_printing::labelled(out, b"shared chip 5 table ", table as u64)?;
+    before_and_after(out, table, old, new, 53)?;
+    before_and_after(out, table, old, new, 74)?;
+    before_and_after(out, table, old, new, 75)?;
+    figures_printing::line_end(out)
 }
 
-fn shared_by_all(old: &[u8], new: &[u8]) {
+fn shared_by_all(out: Stdout, old: &[u8], new: &[u8]) -> io::Result<()> {
     for table in 1..7u8 {
-        shared_by(table, old, new);
+        shared_by(out, table, old, new)?;
     }
+    Ok(())
 }
 
-fn shared() {
+fn shared(out: Stdout) -> io::Result<()> {
     let old = power_on_seven(0x80);
     let mut new = old;
     plays::play(figures_samples::other_seven(1), &mut new, 25);
-    shared_by_all(&old, &new);
+    shared_by_all(out, &old, &new)
 }
 
-pub fn print_all() {
-    one_bank();
-    banked();
-    seven_points();
-    all_played_of_4();
-    all_played_of_5();
-    shared();
+pub fn print_all(out: Stdout) -> io::Result<()> {
+    one_bank(out)?;
+    banked(out)?;
+    seven_points(out)?;
+    all_played_of_4(out)?;
+    all_played_of_5(out)?;
+    shared(out)
 }

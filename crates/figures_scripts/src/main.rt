@@ -5,8 +5,11 @@ mod demand_lines;
 mod restart_lines;
 mod script_lines;
 
-fn main() {
-    script_lines::print_all();
-    demand_lines::print_all();
-    restart_lines::print_all();
+use std::io;
+
+fn main(rt: HostRuntime) -> io::Result<()> {
+    let out = rt.stdout();
+    script_lines::print_all(out)?;
+    demand_lines::print_all(out)?;
+    restart_lines::print_all(out)
 }

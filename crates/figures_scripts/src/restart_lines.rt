@@ -5,65 +5,81 @@ ghost use Rattle.plays.specs.NeverSlower.{Since, Safely};
 
 use crate::{demand_lines, script_lines};
 use curves::Plan;
+use std::io::{self, Stdout};
 
-// One play more.
-fn again(plan: Plan, start: &[u8], image: &mut [u8], play: usize, count: u8)
+// One play more. It comes before the line's first byte, and so also where the line cannot be written.
+fn again(
+    out: Stdout,
+    plan: Plan,
+    start: &[u8],
+    image: &mut [u8],
+    play: usize,
+    count: u8,
+) -> io::Result<()>
     ensures { Safely plan image.old count image.new }
 {
-    figures_printing::text(b"restart");
-    figures_samples::head(plan);
-    figures_printing::labelled(b" play ", play as u64);
-    figures_printing::labelled(b" count ", count as u64);
-    script_lines::made(plays::play(plan, image, count as usize));
-    demand_lines::compared(plan, start, image);
-    figures_printing::line_end();
+    let answer = plays::play(plan, image, count as usize);
+    figures_printing::text(out, b"restart")?;
+    figures_samples::head(out, plan)?;
+    figures_printing::labelled(out, b" play ", play as u64)?;
+    figures_printing::labelled(out, b" count ", count as u64)?;
+    script_lines::made(out, answer)?;
+    demand_lines::compared(out, plan, start, image)?;
+    figures_printing::line_end(out)
 }
 
 // A play for each count, on the image that the one before it left. What `plays::play` promises of one play is all that is used of it.
-fn run(plan: Plan, start: &[u8], image: &mut [u8], counts: &[u8])
+// Every play is made, also once a line cannot be written, and the first such failure is the answer.
+fn run(out: Stdout, plan: Plan, start: &[u8], image: &mut [u8], counts: &[u8]) -> io::Result<()>
     ensures { Since plan image.old counts.now image.new }
 {
+    let mut printed = Ok(());
     for k in 0..counts.len() {
-        again(plan, start, image, k, counts[k]);
+        printed = printed.and(again(out, plan, start, image, k, counts[k]));
     }
+    printed
 }
 
-fn run_from(plan: Plan, start: [u8; 256], counts: [u8; 5]) {
+fn run_from(out: Stdout, plan: Plan, start: [u8; 256], counts: [u8; 5]) -> io::Result<()> {
     let mut image = start;
-    run(plan, &start, &mut image, &counts);
+    run(out, plan, &start, &mut image, &counts)
 }
 
-fn run_from_banked(plan: Plan, start: [u8; 1280], counts: [u8; 5]) {
+fn run_from_banked(out: Stdout, plan: Plan, start: [u8; 1280], counts: [u8; 5]) -> io::Result<()> {
     let mut image = start;
-    run(plan, &start, &mut image, &counts);
+    run(out, plan, &start, &mut image, &counts)
 }
 
-fn run_from_seven(plan: Plan, start: [u8; 768], counts: [u8; 5]) {
+fn run_from_seven(out: Stdout, plan: Plan, start: [u8; 768], counts: [u8; 5]) -> io::Result<()> {
     let mut image = start;
-    run(plan, &start, &mut image, &counts);
+    run(out, plan, &start, &mut image, &counts)
 }
 
 // Cut while speeds are raised, while settings move and while speeds settle; before the first write; and at last not at all. Of chip 5 also between the
 // select of bank 0 and critical.
-pub fn print_all() {
+pub fn print_all(out: Stdout) -> io::Result<()> {
     run_from(
+        out,
         demand_lines::slope(1, 1, 65),
         demand_lines::power_on(1),
         [6, 0, 11, 2, 13],
-    );
+    )?;
     run_from(
+        out,
         demand_lines::stepped(),
         demand_lines::earlier(),
         [12, 0, 19, 3, 24],
-    );
+    )?;
     run_from_banked(
+        out,
         demand_lines::slope(4, 7, 95),
         demand_lines::unordered(),
         [7, 0, 12, 1, 99],
-    );
+    )?;
     run_from_seven(
+        out,
         demand_lines::seven(4),
         demand_lines::unordered_seven(),
         [16, 0, 22, 3, 99],
-    );
+    )
 }
