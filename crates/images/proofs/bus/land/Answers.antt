@@ -15,8 +15,7 @@ use Rattle.images.specs.Bytes.{stored_at, placed, initialized, settled, landed}
 use Rattle.images.proofs.Masks.{without}
 use Rattle.images.proofs.Writes.{landed_stores, landed_more}
 use borrow.Author.Rules.{rules}
-use Rattle.images.proofs.bus.land.Statement.{statement}
-use Rattle.images.proofs.bus.land.Tie as tie
+use Rattle.images.proofs.bus.land.Goals as goal
 
 module _ (chip : Chip) (at byte : ℕ) (image : List ℕ) (masks : Masks) (effects : Effects) (m : masks ≡ masks_in (row_of chip at))
     (e : effects ≡ effects_of chip at) (small : byte < 2 ^ 8) (few : effects.fleeting < 2 ^ 8) (middle : List ℕ)
@@ -40,52 +39,14 @@ module _ (chip : Chip) (at byte : ℕ) (image : List ℕ) (masks : Masks) (effec
       ∙ ap (initialized chip) lasting
       ∙ sym (landed_more chip at byte image (ap not (ne_eqb _ 0 (λ q. some (ap (λ (f : Effects). bit_and byte f.initialize) e ∙ q)))))
 
-masks-of-requires : tie.Need-masks-of-requires
-masks-of-requires c κs = search rules
+pub returns-then-byte-effects-ne0 : goal.returns-then-byte-effects-ne0
+returns-then-byte-effects-ne0 c =
+    then-initialized c.args.chip c.args.at c.args.byte c.args.image.now _ c.effects_of-effects.result
+    c.masks_of.ensures.answer c.effects_of-effects.ensures.answer c.ranges.byte.fits (search rules) _ c.place.ensures.bytes _
+    c.if-byte-effects-ne0.true c.initialize.ensures
 
-effects-of-requires : tie.Need-effects-of-requires
-effects-of-requires c κs = search rules
-
-place-requires : tie.Need-place-requires
-place-requires c κs = search rules
-
-initialize-requires : tie.Need-initialize-requires
-initialize-requires c κs = search rules
-
-same_length : tie.Need-same-length
-same_length c = search rules
-
-returns : tie.Need-returns
-returns c =
-    let then = c.before.before.before.before in
-    let place = then.before.before.before.before in
-    let told = place.before.before.before in
-    let start = told.before.before.before in
-    then-initialized start.args.chip start.args.at start.args.byte start.args.image.now _ told.effects_of.result
-    told.before.masks_of.ensures.answer told.effects_of.ensures.answer start.ranges.byte.fits (search rules) _ place.place.ensures.bytes _
-    then.if1.true c.before.before.initialize.ensures
-
-same-length-2 : tie.Need-same-length-2
-same-length-2 c = search rules
-
-returns-2 : tie.Need-returns-2
-returns-2 c =
-    let place = c.before.before.before.before in
-    let told = place.before.before.before in
-    let start = told.before.before.before in
-    all_done start.args.chip start.args.at start.args.byte start.args.image.now _ told.effects_of.result
-    told.before.masks_of.ensures.answer told.effects_of.ensures.answer start.ranges.byte.fits (search rules) _ place.place.ensures.bytes
-    c.if1.false
-
-pub land-spec : {M : Type 1} → statement M
-land-spec =
-    tie.close
-    (tie.spec
-    masks-of-requires
-    effects-of-requires
-    place-requires
-    initialize-requires
-    same_length
-    returns
-    same-length-2
-    returns-2)
+pub returns-else-byte-effects-ne0 : goal.returns-else-byte-effects-ne0
+returns-else-byte-effects-ne0 c =
+    all_done c.args.chip c.args.at c.args.byte c.args.image.now _ c.effects_of-effects.result
+    c.masks_of.ensures.answer c.effects_of-effects.ensures.answer c.ranges.byte.fits (search rules) _ c.place.ensures.bytes
+    c.if-byte-effects-ne0.false

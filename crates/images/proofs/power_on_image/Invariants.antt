@@ -1,0 +1,18 @@
+-- `images::power_on_image` meets its contract: the places passed hold the power-on values of their rows.
+-- Assumes nothing.
+use Prim.Native.Nat.{ℕ, ◌-◌, ◌≤◌, ◌<◌}
+use native.Mathlib.Omega.{arith}
+use mathlib.Core.Path.{◌≡◌, refl, subst}
+use Rattle.pages.specs.Rows.{column}
+use Rattle.pages.specs.Sheets.{greatest}
+use Rattle.pages.specs.Cards.{row_of}
+use Rattle.pages.proofs.Columns.{column_length, column_at}
+use Rattle.pages.proofs.Filling.{Filled, filled_none, filled_more, filled_front}
+use borrow.Author.Rules.{rules}
+use Rattle.images.proofs.power_on_image.Given as goal
+
+abbrev pub invariant-loop-at : goal.invariant-loop-at
+invariant-loop-at l = Filled (λ k. (row_of l.chip k).power) greatest l.working l.at × (l.at ≤ l.size)
+
+abbrev pub decreases-loop-at : goal.decreases-loop-at
+decreases-loop-at l = l.size - l.at
