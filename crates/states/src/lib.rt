@@ -36,8 +36,8 @@ fn clear(image: &mut [u8], at: usize)
 
 // A read where it lands: a status register gives its byte and is then cleared, and the alarm is acknowledged. No other read changes anything.
 fn take(chip: Chip, image: &mut [u8], address: u8, watch: Watch) -> ByteRead
-    ensures result_value { tells_byte result ≡ (0, (seen chip address image.entry.now, (after_read chip address (record { image = image.entry.now; watch = watch })).watch)) }
-    ensures image_value { image.exit.now ≡ (after_read chip address (record { image = image.entry.now; watch = watch })).image }
+    ensures answer { tells_byte result ≡ (0, (seen chip address image.old, (after_read chip address (record { image = image.old; watch = watch })).watch)) }
+    ensures bytes { image.new ≡ (after_read chip address (record { image = image.old; watch = watch })).image }
 {
     let access = images::look(chip, image, address);
     if !cards::is_status(chip, access.position) {
