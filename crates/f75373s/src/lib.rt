@@ -39,6 +39,7 @@ pub fn masks(position: usize) -> Masks
     }
 }
 
+#[tactic(auto, using(pages::proofs::Lines::power_at, pages::proofs::Lines::power_beyond), unfolding(pages::specs::Cards::sheet_of, pages::specs::Sheets::power_on_in, pages::specs::Rows::column, pages::specs::F75373s::card))]
 pub fn power(position: usize) -> u8
     ensures { PowersOn F75373s position result }
 {
@@ -49,6 +50,7 @@ pub fn power(position: usize) -> u8
 }
 
 // The registers that identity looks at, all of them required.
+#[tactic(auto, unfolding(pages::specs::Cards::sheet_of))]
 pub fn required(k: usize) -> Required
     ensures { Requires F75373s k result }
 {
@@ -88,6 +90,7 @@ const EVERY_BIT: Masks = Masks {
 };
 
 // The registers of the fan tables: B1 to B4, C1 to C5, high byte first.
+#[tactic(auto, unfolding(pages::specs::Cards::sheet_of, pages::specs::F75373s::card))]
 pub fn ground(number: u8) -> Ground
     ensures { Stands F75373s number result }
 {
@@ -98,6 +101,7 @@ pub fn ground(number: u8) -> Ground
     }
 }
 
+#[tactic(auto, using(pages::proofs::Tables::laid_first, pages::proofs::Tables::none_laid), unfolding(pages::specs::Cards::sheet_of, pages::specs::F75373s::card))]
 pub fn table(number: u8) -> Fan
     ensures { Lays F75373s number result }
 {

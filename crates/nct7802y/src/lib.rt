@@ -25,6 +25,7 @@ pub fn masks(position: usize) -> Masks
     }
 }
 
+#[tactic(auto, using(pages::proofs::Lines::power_at, pages::proofs::Lines::power_beyond), unfolding(pages::specs::Cards::sheet_of, pages::specs::Sheets::power_on_in, pages::specs::Rows::column, pages::specs::Nct7802y::card))]
 pub fn power(position: usize) -> u8
     ensures { PowersOn Nct7802y position result }
 {
@@ -35,6 +36,7 @@ pub fn power(position: usize) -> u8
 }
 
 // The registers that identity looks at, all of them required.
+#[tactic(auto, unfolding(pages::specs::Cards::sheet_of))]
 pub fn required(k: usize) -> Required
     ensures { Requires Nct7802y k result }
 {
@@ -80,6 +82,7 @@ const EVERY_BIT: Masks = Masks {
 };
 
 // The registers of the fan tables: T1 to T4 and critical, FL1 to FL4.
+#[tactic(auto, unfolding(pages::specs::Cards::sheet_of, pages::specs::Nct7802y::card))]
 pub fn ground(number: u8) -> Ground
     ensures { Stands Nct7802y number result }
 {
@@ -91,6 +94,7 @@ pub fn ground(number: u8) -> Ground
     }
 }
 
+#[tactic(auto, using(pages::proofs::Tables::laid_first, pages::proofs::Tables::none_laid), unfolding(pages::specs::Cards::sheet_of, pages::specs::Nct7802y::card))]
 pub fn table(number: u8) -> Fan
     ensures { Lays Nct7802y number result }
 {

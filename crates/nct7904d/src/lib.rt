@@ -65,6 +65,7 @@ pub fn power(position: usize) -> u8
 }
 
 // The vendor, chip and device registers with bank select are seen in every bank.
+#[tactic(auto, unfolding(pages::specs::Cards::sheet_of))]
 pub fn position(bank: u8, address: u8) -> usize
     ensures { Positions Nct7904d bank address result }
 {
@@ -78,6 +79,7 @@ pub fn position(bank: u8, address: u8) -> usize
 }
 
 // The registers that identity looks at, all of them required.
+#[tactic(auto, unfolding(pages::specs::Cards::sheet_of))]
 pub fn required(k: usize) -> Required
     ensures { Requires Nct7904d k result }
 {
@@ -153,6 +155,7 @@ fn in_table(critical: u16, first: u16) -> Ground
 }
 
 // Tables 1 to 4 stand in bank 3, tables 5 to 10 in bank 4.
+#[tactic(auto, using(pages::proofs::Tables::no_ground), unfolding(pages::specs::Cards::sheet_of, pages::specs::Nct7904d::card, pages::specs::Nct7904dBank0::bank, pages::specs::Nct7904dBank1::bank, pages::specs::Nct7904dBank2::bank, pages::specs::Nct7904dBank3::bank, pages::specs::Nct7904dBank4::bank))]
 pub fn ground(number: u8) -> Ground
     ensures { Stands Nct7904d number result }
 {
@@ -171,6 +174,7 @@ pub fn ground(number: u8) -> Ground
     }
 }
 
+#[tactic(auto, using(pages::proofs::Tables::laid_first, pages::proofs::Tables::none_laid), unfolding(pages::specs::Cards::sheet_of, pages::specs::Nct7904d::card, pages::specs::Nct7904dBank0::bank, pages::specs::Nct7904dBank1::bank, pages::specs::Nct7904dBank2::bank, pages::specs::Nct7904dBank3::bank, pages::specs::Nct7904dBank4::bank))]
 pub fn table(number: u8) -> Fan
     ensures { Lays Nct7904d number result }
 {

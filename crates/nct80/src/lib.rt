@@ -13,6 +13,7 @@ use pages::{Effects, Masks, NO_EFFECTS};
 struct Row(u8, u8);
 
 // The row of each address, as in crates/pages/specs/Nct80.antt.
+#[tactic(auto, using(crate::proofs::Rows::rows))]
 fn row_at(position: usize) -> Row
     ensures { (result.0 ≡ (row_of Nct80 position).writable) × (result.1 ≡ (row_of Nct80 position).power) }
 {
@@ -68,6 +69,7 @@ pub fn masks(position: usize) -> Masks
 }
 
 // The bits that do more than stand there: INITIALIZATION and Chassis_clear.
+#[tactic(auto, unfolding(pages::specs::Cards::sheet_of, pages::specs::Cards::effects_of))]
 pub fn effects(position: usize) -> Effects
     ensures { Acts Nct80 position result }
 {

@@ -57,6 +57,7 @@ pub fn power(position: usize) -> u8
 }
 
 // Bank select is seen in every bank, with the vendor, chip and device registers.
+#[tactic(auto, unfolding(pages::specs::Cards::sheet_of))]
 pub fn position(bank: u8, address: u8) -> usize
     ensures { Positions W83793g bank address result }
 {
@@ -70,6 +71,7 @@ pub fn position(bank: u8, address: u8) -> usize
 }
 
 // The registers that identity looks at, all of them required: the vendor's high byte, the chip, and version B or C.
+#[tactic(auto, unfolding(pages::specs::Cards::sheet_of))]
 pub fn required(k: usize) -> Required
     ensures { Requires W83793g k result }
 {
@@ -142,6 +144,7 @@ pub fn ground(number: u8) -> Ground
 }
 
 // Critical stands in bank 0 and the rest in bank 2: a script selects bank 2, bank 0 before critical, and bank 2 again.
+#[tactic(auto, using(pages::proofs::Tables::laid_first, pages::proofs::Tables::none_laid), unfolding(pages::specs::Cards::sheet_of, pages::specs::W83793g::card, pages::specs::W83793gBank0::bank, pages::specs::W83793gBank1::bank, pages::specs::W83793gBank2::bank))]
 pub fn table(number: u8) -> Fan
     ensures { Lays W83793g number result }
 {

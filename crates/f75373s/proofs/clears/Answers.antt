@@ -24,7 +24,7 @@ unfolding card
 returns-in-52 c = ap (λ (position : ℕ). (row_in card position).clears) (sym c.in-52.is)
 
 pub returns-in_default : goal.returns-in_default
-returns-in_default c = 
+returns-in_default c =
     let position = c.args.position in
     let other : among clearing position ≡ false = grind (arith, nat_tests) in
     sym (clears_none clearing card no-others position other)

@@ -18,7 +18,7 @@ no-clears position = clearless Nct7904d position refl
 
 pub returns : goal.returns
 unfolding sheet_of row_of
-returns c = 
+returns c =
     let position = c.args.position in
     let whole : position / 256 * 256 + position % 256 ≡ position = omega arith in
     record {

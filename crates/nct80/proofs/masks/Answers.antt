@@ -9,7 +9,7 @@ use Rattle.nct80.proofs.masks.Goals as goal
 
 pub returns : goal.returns
 unfolding sheet_of card
-returns c = 
+returns c =
     let position = c.args.position in
     record {
       answer =

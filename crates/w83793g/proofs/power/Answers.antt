@@ -7,7 +7,7 @@ use Rattle.w83793g.proofs.power.Goals as goal
 
 pub returns : goal.returns
 unfolding sheet_of row_of
-returns c = 
+returns c =
     let position = c.args.position in
     let whole : position / 256 * 256 + position % 256 ≡ position = omega arith in
     record { answer = c.power_on.ensures ∙ ap (λ (p : ℕ). (row_in card p).power) whole }

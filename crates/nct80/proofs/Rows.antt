@@ -1,13 +1,12 @@
--- `nct80::row_at` meets its contract: an arm tells the row of every address that comes to it, by computation over the addresses of the arm.
+-- What the card says of the addresses of each arm of `row_at`, by computation over them.
 use Prim.Native.Nat.{ℕ, suc, ◌-◌, ◌≤◌, ◌<◌}
 use native.Mathlib.Omega.{arith}
 use mathlib.Core.Path.{◌≡◌, refl, sym, ap, subst, ◌∙◌}
 use mathlib.Core.Bool.{Bool, So, ◌&&◌}
-use mathlib.Core.Logic.{◌⊎◌, inl, inr, ⊎_elim}
 use mathlib.Core.List.{List}
 use borrow.Author.Tests.{eqb-true}
 use lib.Dec.{eqb}
-use lib.ListN.{length, get_or}
+use lib.ListN.{get_or}
 use Rattle.pages.specs.declared.Chip.TheVariants.{Nct80}
 use Rattle.pages.specs.Rows.{every, Row, from}
 use Rattle.pages.specs.Cards.{sheet_of, row_of}
@@ -15,7 +14,6 @@ use Rattle.pages.specs.Nct80.{card}
 use Rattle.pages.proofs.Columns.{run_length, run_at}
 use Rattle.pages.proofs.Every.{both, of_every}
 use Rattle.pages.proofs.Lines.{row_beyond}
-use Rattle.nct80.proofs.row_at.Goals as goal
 
 abbrev Told : ℕ → ℕ → ℕ → Type 0
 Told writable power position = (writable ≡ (row_of Nct80 position).writable) × (power ≡ (row_of Nct80 position).power)
@@ -60,65 +58,75 @@ unlisted {position} low other =
     let none = row_beyond 0x3F 0x00 card refl position (omega (arith, low, other)) in
     (ap (λ (r : Row). r.writable) (sym none), ap (λ (r : Row). r.power) (sym none))
 
-pub returns-in-0 : goal.returns-in-0
+pub row_00 : (position : ℕ) → position ≡ 0x00 → Told 0xFF 0x08 position
 unfolding sheet_of row_of card
-returns-in-0 c = alone 0x00 refl c.in-0.is
+row_00 position e = alone 0x00 refl e
 
-pub returns-in-62 : goal.returns-in-62
+pub row_01_to_02 : (position : ℕ) → 0x01 ≤ position → position ≤ 0x02 → Told 0x00 0x00 position
 unfolding sheet_of row_of card
-returns-in-62 c = alone 0x3E refl c.in-62.is
+row_01_to_02 position low high = told 0x01 0x02 {position = position} refl low (omega arith)
 
-pub returns-in-1-to-2 : goal.returns-in-1-to-2
+pub row_03_to_04 : (position : ℕ) → 0x03 ≤ position → position ≤ 0x04 → Told 0xFF 0x00 position
 unfolding sheet_of row_of card
-returns-in-1-to-2 c = told 0x01 0x02 {position = c.args.position} refl (omega arith) (omega arith)
+row_03_to_04 position low high = told 0x03 0x04 {position = position} refl low (omega arith)
 
-pub returns-in-3-to-4 : goal.returns-in-3-to-4
+pub row_05 : (position : ℕ) → position ≡ 0x05 → Told 0xFF 0x14 position
 unfolding sheet_of row_of card
-returns-in-3-to-4 c = told 0x03 0x04 {position = c.args.position} refl (omega arith) (omega arith)
+row_05 position e = alone 0x05 refl e
 
-pub returns-in-5 : goal.returns-in-5
+pub row_06 : (position : ℕ) → position ≡ 0x06 → Told 0xFE 0x01 position
 unfolding sheet_of row_of card
-returns-in-5 c = alone 0x05 refl c.in-5.is
+row_06 position e = alone 0x06 refl e
 
-pub returns-in-6 : goal.returns-in-6
+pub row_07 : (position : ℕ) → position ≡ 0x07 → Told 0x01 0x00 position
 unfolding sheet_of row_of card
-returns-in-6 c = alone 0x06 refl c.in-6.is
+row_07 position e = alone 0x07 refl e
 
-pub returns-in-7 : goal.returns-in-7
+pub row_08 : (position : ℕ) → position ≡ 0x08 → Told 0xFF 0x00 position
 unfolding sheet_of row_of card
-returns-in-7 c = alone 0x07 refl c.in-7.is
+row_08 position e = alone 0x08 refl e
 
-pub returns-in-8 : goal.returns-in-8
+pub row_09 : (position : ℕ) → position ≡ 0x09 → Told 0x07 0x00 position
 unfolding sheet_of row_of card
-returns-in-8 c = alone 0x08 refl c.in-8.is
+row_09 position e = alone 0x09 refl e
 
-pub returns-in_default-position : goal.returns-in_default-position
+pub row_0a_to_1f : (position : ℕ) → 0x0A ≤ position → position ≤ 0x1F → Told 0x00 0x00 position
 unfolding sheet_of row_of card
-returns-in_default-position c = told 0x09 0x09 {position = c.args.position} refl (omega arith) (omega arith)
+row_0a_to_1f position low high = told 0x0A 0x1F {position = position} refl low (omega arith)
 
-pub returns-in-10-to-31 : goal.returns-in-10-to-31
+pub row_20_to_29 : (position : ℕ) → 0x20 ≤ position → position ≤ 0x29 → Told 0x00 0x00 position
 unfolding sheet_of row_of card
-returns-in-10-to-31 c = told 0x0A 0x1F {position = c.args.position} refl (omega arith) (omega arith)
+row_20_to_29 position low high = told 0x20 0x29 {position = position} refl low (omega arith)
 
-pub returns-in-32-to-41 : goal.returns-in-32-to-41
+pub row_2a_to_37 : (position : ℕ) → 0x2A ≤ position → position ≤ 0x37 → Told 0xFF 0x00 position
 unfolding sheet_of row_of card
-returns-in-32-to-41 c = told 0x20 0x29 {position = c.args.position} refl (omega arith) (omega arith)
+row_2a_to_37 position low high = told 0x2A 0x37 {position = position} refl low (omega arith)
 
-pub returns-in-42-to-55 : goal.returns-in-42-to-55
+pub row_38 : (position : ℕ) → position ≡ 0x38 → Told 0xFF 0x55 position
 unfolding sheet_of row_of card
-returns-in-42-to-55 c = told 0x2A 0x37 {position = c.args.position} refl (omega arith) (omega arith)
+row_38 position e = alone 0x38 refl e
 
-pub returns-in-56 : goal.returns-in-56
+pub row_39 : (position : ℕ) → position ≡ 0x39 → Told 0xFF 0x4B position
 unfolding sheet_of row_of card
-returns-in-56 c = ⊎_elim (alone 0x38 refl) (alone 0x3A refl) c.in-56.is
+row_39 position e = alone 0x39 refl e
 
-pub returns-in-57 : goal.returns-in-57
+pub row_3a : (position : ℕ) → position ≡ 0x3A → Told 0xFF 0x55 position
 unfolding sheet_of row_of card
-returns-in-57 c = ⊎_elim (alone 0x39 refl) (alone 0x3B refl) c.in-57.is
+row_3a position e = alone 0x3A refl e
 
-pub returns-in_default-position-2 : goal.returns-in_default-position-2
+pub row_3b : (position : ℕ) → position ≡ 0x3B → Told 0xFF 0x4B position
 unfolding sheet_of row_of card
-returns-in_default-position-2 c = told 0x3C 0x3D {position = c.args.position} refl (grind arith) (omega arith)
+row_3b position e = alone 0x3B refl e
 
-pub returns-in_default : goal.returns-in_default
-returns-in_default c = unlisted (omega arith) (λ e. omega arith)
+pub row_3c_to_3d : (position : ℕ) → 0x3C ≤ position → position ≤ 0x3D → Told 0xFF 0xFF position
+unfolding sheet_of row_of card
+row_3c_to_3d position low high = told 0x3C 0x3D {position = position} refl low (omega arith)
+
+pub row_3e : (position : ℕ) → position ≡ 0x3E → Told 0x00 0x1A position
+unfolding sheet_of row_of card
+row_3e position e = alone 0x3E refl e
+
+pub row_3f_on : (position : ℕ) → 0x3F ≤ position → Told 0x00 0x00 position
+row_3f_on position low = unlisted (omega arith) (λ e. omega arith)
+
+pub ruleset rows = (row_00, row_01_to_02, row_03_to_04, row_05, row_06, row_07, row_08, row_09, row_0a_to_1f, row_20_to_29, row_2a_to_37, row_38, row_39, row_3a, row_3b, row_3c_to_3d, row_3e, row_3f_on)
