@@ -1,7 +1,7 @@
 -- What a write on the bus does to an image, by the effects of the register where it lands: where that only stores, it touches one position only. What lies
 -- above goes by these laws: no other crate opens `landed` or `initialized`.
 -- Assumes nothing.
-use Prim.Native.Nat.{ℕ, ◌-◌, ◌^◌, ◌<◌}
+use Prim.Native.Nat.{ℕ, ◌^◌, ◌<◌}
 use native.Mathlib.Omega.{arith}
 use mathlib.Core.Path.{◌≡◌, refl, sym, ap, subst, ◌∙◌}
 use mathlib.Core.Bool.{Bool, true, false, So, cond, not}

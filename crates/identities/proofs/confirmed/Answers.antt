@@ -1,6 +1,6 @@
 -- `identities::confirmed` meets its contract: as far as the loop has come every register agrees.
 -- Assumes nothing.
-use Prim.Native.Nat.{ℕ, ◌≤◌, ◌<◌, ◌-◌}
+use Prim.Native.Nat.{ℕ, ◌<◌}
 use native.Mathlib.Omega.{arith}
 use native.Mathlib.Numerals.{add-one}
 use mathlib.Core.Path.{◌≡◌, sym, ap, ◌∙◌}
@@ -9,10 +9,9 @@ use lib.Dec.{ltb}
 use lib.ListN.{length, take}
 use lib.Seq.{take_all}
 use Rattle.pages.specs.declared.Required.{Required}
-use Rattle.pages.specs.declared.Sizes.{Sizes}
 use Rattle.pages.specs.Cards.{sheet_of, size_of}
 use Rattle.pages.specs.Identity.{holds, all_hold, confirmed}
-use Rattle.identities.proofs.Asked.{inside, none_asked, one_more, one_fails, all_asked}
+use Rattle.identities.proofs.Asked.{inside, one_more, one_fails, all_asked}
 use borrow.Author.Rules.{rules}
 use Rattle.identities.proofs.confirmed.Goals as goal
 

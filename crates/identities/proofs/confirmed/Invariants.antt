@@ -1,20 +1,11 @@
 -- `identities::confirmed` meets its contract: as far as the loop has come every register agrees.
 -- Assumes nothing.
-use Prim.Native.Nat.{ℕ, ◌≤◌, ◌<◌, ◌-◌}
-use native.Mathlib.Omega.{arith}
-use native.Mathlib.Numerals.{add-one}
-use mathlib.Core.Path.{◌≡◌, sym, ap, ◌∙◌}
+use Prim.Native.Nat.{◌≤◌, ◌-◌}
+use mathlib.Core.Path.{◌≡◌}
 use mathlib.Core.Bool.{true}
-use borrow.Author.Tests.{not-true, not-false}
-use lib.Dec.{ltb}
 use lib.ListN.{length, take}
-use lib.Seq.{take_all}
-use Rattle.pages.specs.declared.Required.{Required}
-use Rattle.pages.specs.declared.Sizes.{Sizes}
-use Rattle.pages.specs.Cards.{sheet_of, size_of}
-use Rattle.pages.specs.Identity.{holds, all_hold, confirmed}
-use Rattle.identities.proofs.Asked.{inside, none_asked, one_more, one_fails, all_asked}
-use borrow.Author.Rules.{rules}
+use Rattle.pages.specs.Cards.{sheet_of}
+use Rattle.pages.specs.Identity.{all_hold}
 use Rattle.identities.proofs.confirmed.Given as goal
 
 abbrev pub invariant-loop-k : goal.invariant-loop-k

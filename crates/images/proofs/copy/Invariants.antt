@@ -1,13 +1,9 @@
 -- `images::copy` meets its contract: the places passed hold the bytes of the working image.
 -- Assumes nothing.
-use Rattle.pages.proofs.Filling.{Filled, filled_none, filled_more, filled_all}
-use Rattle.pages.specs.Sheets.{greatest}
-use lib.ListN.{length, get_or, take, length-take}
-use lib.Seq.{get_or-take}
-use native.Mathlib.Omega.{arith}
+use Rattle.pages.proofs.Filling.{Filled}
+use lib.ListN.{length, get_or}
 use Prim.Native.Nat.{◌-◌}
-use mathlib.Core.Path.{◌≡◌, refl, ◌∙◌}
-use borrow.Author.Rules.{rules}
+use mathlib.Core.Path.{◌≡◌}
 use Rattle.images.proofs.copy.Given as goal
 
 abbrev pub invariant-loop-at : goal.invariant-loop-at

@@ -3,7 +3,6 @@
 use mathlib.Core.Path.{sym}
 use lib.Seq.{set_out}
 use Rattle.images.specs.Bytes.{stored, stored_at}
-use borrow.Author.Rules.{rules}
 use Rattle.images.proofs.place.Goals as goal
 
 pub returns-then-at-image : goal.returns-then-at-image

@@ -1,14 +1,9 @@
 -- `images::power_on_image` meets its contract: the places passed hold the power-on values of their rows.
 -- Assumes nothing.
-use Prim.Native.Nat.{ℕ, ◌-◌, ◌≤◌, ◌<◌}
-use native.Mathlib.Omega.{arith}
-use mathlib.Core.Path.{◌≡◌, refl, subst}
-use Rattle.pages.specs.Rows.{column}
+use Prim.Native.Nat.{◌-◌, ◌≤◌}
 use Rattle.pages.specs.Sheets.{greatest}
 use Rattle.pages.specs.Cards.{row_of}
-use Rattle.pages.proofs.Columns.{column_length, column_at}
-use Rattle.pages.proofs.Filling.{Filled, filled_none, filled_more, filled_front}
-use borrow.Author.Rules.{rules}
+use Rattle.pages.proofs.Filling.{Filled}
 use Rattle.images.proofs.power_on_image.Given as goal
 
 abbrev pub invariant-loop-at : goal.invariant-loop-at

@@ -3,14 +3,13 @@
 use Prim.Native.Nat.{ℕ}
 use native.Mathlib.Omega.{arith}
 use mathlib.Core.Path.{refl, sym, ap, ◌∙◌}
-use Rattle.refusal.proofs.Passed.{when_passed, when_refused}
+use Rattle.refusal.proofs.Passed.{when_passed}
 use Rattle.pages.specs.declared.Named.{Named}
 use Rattle.pages.specs.Rows.{column}
 use Rattle.pages.specs.Sheets.{power_on_in}
 use Rattle.pages.specs.Cards.{row_of, power_on, when_known}
 use Rattle.pages.proofs.Sound.{sound_sheet}
-use Rattle.images.proofs.Admission.{admit_known, admit_passed, admit_refused}
-use borrow.Author.Rules.{rules}
+use Rattle.images.proofs.Admission.{admit_known, admit_passed}
 use Rattle.images.proofs.reset.Goals as goal
 
 pub power_on_image-working-requires : goal.power_on_image-working-requires

@@ -8,7 +8,6 @@ use Rattle.images.specs.declared.Access.{Access}
 use Rattle.watch.specs.declared.Watch.{Watch}
 use Rattle.channels.specs.Channels.{State}
 use Rattle.states.proofs.Reading.{read_plain, read_status}
-use borrow.Author.Rules.{rules}
 use Rattle.states.proofs.take.Goals as goal
 
 pub returns-then-not-is_status : goal.returns-then-not-is_status

@@ -4,7 +4,6 @@ use Prim.Native.Nat.{ℕ}
 use mathlib.Core.Path.{sym, ap, ◌∙◌}
 use Rattle.pages.specs.Banks.{stands_in}
 use Rattle.pages.specs.Cards.{banks_of}
-use borrow.Author.Rules.{rules}
 use Rattle.images.proofs.Landing.{lands}
 use Rattle.images.proofs.bus.position.Goals as goal
 

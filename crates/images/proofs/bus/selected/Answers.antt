@@ -3,7 +3,6 @@
 use Prim.Native.Nat.{ℕ}
 use mathlib.Core.Path.{ap, ◌∙◌}
 use lib.Bits.{bit_and}
-use borrow.Author.Rules.{rules}
 use Rattle.images.proofs.Landing.{selected_by}
 use Rattle.images.proofs.bus.selected.Goals as goal
 
