@@ -19,12 +19,13 @@ one_more watch next samples i high hysteresis h fits e =
 pub loop-i-preserved : goal.loop-i-preserved
 loop-i-preserved c =
     let l = c.loop-i in
-    let a = c.args in
+    let xs = c.args.samples.now in
+    let high : ℤ = to_z w8 (of_z w8 c.args.high) in
+    let hysteresis : ℤ = to_z w8 (of_z w8 c.args.hysteresis) in
+    let next : c.after-self.result ≡ after l.self (sample (to_z w16 (of_z w16 (get_or xs l.i (pos 0)))) high hysteresis) = c.after-self.ensures in
     record {
       within = omega arith;
-      so_far =
-          one_more l.self c.after-self.result a.samples.now l.i (to_z w8 (of_z w8 a.high)) (to_z w8 (of_z w8 a.hysteresis)) c.loop-i-test.true (search rules) c.after-self.ensures
-          ∙ l.invariant.so_far;
+      so_far = one_more l.self c.after-self.result xs l.i high hysteresis c.loop-i-test.true (search rules) next ∙ l.invariant.so_far;
     }
 
 pub returns : goal.returns
