@@ -12,6 +12,7 @@ use pages::{
 pub const GREATEST: usize = 1280;
 
 // The chip of a chip number, and none for every other number.
+#[tactic(auto, unfolding(pages::specs::Cards::sheet_of))]
 pub fn chip_of(number: u8) -> Named
     ensures { Names number result }
 {
@@ -39,6 +40,7 @@ pub fn masks_of(chip: Chip, position: usize) -> Masks
 }
 
 // The bits of a register of the image that do more than stand there; none behind the card's end.
+#[tactic(auto, unfolding(pages::specs::Cards::sheet_of, pages::specs::Cards::effects_of))]
 pub fn effects_of(chip: Chip, position: usize) -> Effects
     ensures { Acts chip position result }
 {
@@ -52,6 +54,7 @@ pub fn effects_of(chip: Chip, position: usize) -> Effects
 }
 
 // Whether a register of the image tells a status: a read clears it, and is the acknowledge.
+#[tactic(auto, unfolding(pages::specs::Cards::sheet_of, pages::specs::Cards::is_status))]
 pub fn is_status(chip: Chip, position: usize) -> bool
     ensures { Reports chip position result }
 {
@@ -78,6 +81,7 @@ pub fn power_on_of(chip: Chip, position: usize) -> u8
 }
 
 // How long the chip's image and its identity are, and how many status registers it has. Where identity looks at no register, nothing is confirmed.
+#[tactic(auto, unfolding(pages::specs::Cards::sheet_of))]
 pub fn sizes_of(chip: Chip) -> Sizes
     ensures { TellsSizes chip result }
 {
@@ -111,6 +115,7 @@ pub fn sizes_of(chip: Chip) -> Sizes
 }
 
 // The k-th register that identity looks at, and no bit of any register behind the last.
+#[tactic(auto, unfolding(pages::specs::Cards::sheet_of))]
 pub fn required_of(chip: Chip, k: usize) -> Required
     ensures { Requires chip k result }
 {
@@ -124,6 +129,7 @@ pub fn required_of(chip: Chip, k: usize) -> Required
 }
 
 // The fan table of a number.
+#[tactic(auto, using(pages::proofs::Tables::none_laid), unfolding(pages::specs::Cards::sheet_of))]
 pub fn table_of(chip: Chip, number: u8) -> Fan
     ensures { Lays chip number result }
 {
@@ -158,6 +164,7 @@ pub fn layout_of(chip: Chip, number: u8) -> Layout
 }
 
 // Where the registers of a fan table stand; nowhere where there is none.
+#[tactic(auto, using(pages::proofs::Tables::no_ground), unfolding(pages::specs::Cards::sheet_of))]
 pub fn ground_of(chip: Chip, number: u8) -> Ground
     ensures { Stands chip number result }
 {
@@ -177,6 +184,7 @@ const ONE_BANK: Selector = Selector {
 };
 
 // The register that selects a bank of the chip: of the NCT7904D BANK_SEL, bits 2 to 0; of the W83793G BankSel, bits 2 to 0, whose bit 7 may be written too.
+#[tactic(auto, unfolding(pages::specs::Cards::sheet_of, pages::specs::Nct7904d::card, pages::specs::Nct7904dBank0::bank, pages::specs::W83793g::card, pages::specs::W83793gBank0::bank))]
 pub fn selector_of(chip: Chip) -> Selector
     ensures { Selects chip result }
 {
@@ -208,6 +216,7 @@ pub fn selector_of(chip: Chip) -> Selector
 }
 
 // The position of the image that an address is while a bank is selected.
+#[tactic(auto, unfolding(pages::specs::Cards::sheet_of))]
 pub fn position_of(chip: Chip, bank: u8, address: u8) -> usize
     ensures { Positions chip bank address result }
 {
