@@ -53,6 +53,7 @@ impl Load {
     }
 
     // The table's register that is written k-th, by its place: the raised speeds, then all of them.
+    #[tactic(auto, unfolding(crate::specs::Making::place_at))]
     fn place(self, k: usize) -> usize
         requires { Short self }
         ensures { result ≡ place_at self k }
@@ -64,6 +65,7 @@ impl Load {
     }
 
     // The byte that it takes, from a plan's body.
+    #[tactic(auto, unfolding(crate::specs::Making::byte_at))]
     fn byte(self, body: &[u8], k: usize) -> u8
         requires short { Short self }
         requires body_len { length body.now ≡ longest }
