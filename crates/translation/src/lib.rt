@@ -56,6 +56,7 @@ fn record_lines(input: &[u8], out: &mut [u8]) -> usize
     lines::end(out, at, plans)
 }
 
+#[tactic(auto, using(crate::proofs::WrittenOut::longer))]
 fn all_lines(input: &[u8], out: &mut [u8]) -> usize
     ensures { Adds (text_of input.now) out.old 0 result out.new }
 {
