@@ -70,6 +70,7 @@ fn all_lines(input: &[u8], out: &mut [u8]) -> usize
 const LONGEST_TEXT: usize = 40979;
 
 // Whether a buffer of some length holds the text of an input. Where it might not, the text is measured, by a walk over a buffer without a byte.
+#[tactic(auto, using(crate::proofs::Bound::text_short))]
 fn has_room(input: &[u8], room: usize) -> bool
     ensures { result ≡ leb (length (text_of input.now)) room }
 {
