@@ -56,6 +56,7 @@ fn bounds_in(body: &[u8]) -> [u8; 4]
 }
 
 // C1 to C5 stand behind B1 to B4.
+#[tactic(auto, unfolding(curves::specs::Curves::words))]
 fn counts_in(body: &[u8]) -> [u16; 5]
     ensures { result ≡ words (values_at body.now (from 4 10)) }
 {

@@ -6,6 +6,7 @@ use crate::degrees::{degree_of, degrees_of};
 use crate::{MOST_POINTS, count_of};
 
 // Between two points: "the floor of (FL(k-1) x (Tk - T) + FLk x (T - T(k-1))) / (Tk - T(k-1))", never a truncated difference.
+#[tactic(auto, unfolding(crate::specs::Curves::mean))]
 fn mean(low: u8, from: u8, high: u8, to: u8, at: u8) -> u8
     requires { (low < at) × (at ≤ high) }
     ensures { result ≡ mean (low, from) (high, to) at }

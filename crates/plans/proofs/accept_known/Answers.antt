@@ -27,8 +27,8 @@ points : (chip : Chip) (plan : Plan) {l : Layout} {r s : Bool} → l ≡ layout_
 unfolding points_pass
 points chip plan e p t = sym (p ∙ ap (λ (k : Layout). goes_with k plan.points) e) ∙ t
 
-module _ (chip : Chip) (plan : Plan) {l : Layout} (typed : Typed plan) (found : So (has_table chip plan.table) × (l ≡ layout_of chip plan.table)) {f : Fitting} {r s : Bool}
-    (fits : f ≡ fitting_of chip plan l) where
+module _ (chip : Chip) (plan : Plan) {l : Layout} {f : Fitting} {r s : Bool} (typed : Typed plan)
+    (found : So (has_table chip plan.table) × (l ≡ layout_of chip plan.table)) (fits : f ≡ fitting_of chip plan l) where
   temperatures : r ≡ temperatures_in_order l.shape plan → (r && f.settings) ≡ s → temperatures_pass chip plan ≡ s
   temperatures p t = sym (ap₂ ◌&&◌ p (ap (λ (g : Fitting). g.settings) fits) ∙ temperatures_pass_is chip plan typed found.0 l found.1) ∙ t
 

@@ -9,4 +9,6 @@ use Rattle.bodies.specs.Bodies.{slope_body}
 use Rattle.bodies.proofs.encoding.slope_bytes.Given as goal
 
 abbrev pub invariant-loop-k : goal.invariant-loop-k
-invariant-loop-k l = (l.count ≡ min l.points most_points) × Filled (λ j. get_or (slope_body l.leading l.count l.temperatures l.critical l.duties) j 0) longest l.bytes l.k
+invariant-loop-k l =
+    (l.count ≡ min l.points most_points)
+    × Filled (λ j. get_or (slope_body l.leading l.count l.temperatures l.critical l.duties) j 0) longest l.bytes l.k

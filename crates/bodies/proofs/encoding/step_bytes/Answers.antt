@@ -18,4 +18,5 @@ returns c =
     rw (c.high.ensures, c.low.ensures, c.high-2.ensures, c.low-2.ensures)
     (rw (c.high-3.ensures, c.low-3.ensures, c.high-4.ensures, c.low-4.ensures)
     (rw (c.high-5.ensures, c.low-5.ensures)
-    (ap₂ (λ (bs cs : List ℕ). column longest (λ k. get_or (bs ++ halves cs) k 0)) (spelled a.bounds 4 (search rules)) (spelled a.counts 5 (search rules)))))
+    (ap₂ (λ (bs cs : List ℕ). column longest (λ k. get_or (bs ++ halves cs) k 0))
+    (spelled a.bounds 4 (search rules)) (spelled a.counts 5 (search rules)))))
