@@ -14,7 +14,7 @@ pub returns : goal.returns
 returns c =
     let loop = c.loop-at in
     let a = c.args in
-    let all : loop.at ≡ a.size = omega (arith, c.loop-at-test.false, loop.invariant.1) in
+    let all : loop.at ≡ a.size = omega arith in
     let power : ℕ → ℕ = λ k. (row_of a.chip k).power in
-    let filled = subst (Filled power greatest loop.working) all loop.invariant.0 in
+    let filled = subst (Filled power greatest loop.working) all loop.invariant in
     filled_front filled (column a.size power) (column_length a.size power) (column_at a.size power)

@@ -16,14 +16,12 @@ pub loop-at-preserved : goal.loop-at-preserved
 unfolding stored
 loop-at-preserved c =
     let loop = c.loop-at in
-    let inside : loop.at < length c.args.image.now = omega (arith, c.loop-at-test.true, loop.invariant.1) in (
-      remade_more _ loop.invariant.0 inside
-          (c.stored.ensures
-          ∙ ap₂ (λ (w p : ℕ). stored_bits 8 w 0x00 (get_or loop.image loop.at 0) p)
-          (ap (λ (m : Masks). m.writable) c.masks_of-card.ensures.answer)
-          c.power_on_of-power.ensures.answer),
-      loop.invariant.1,
-    )
+    let inside : loop.at < length c.args.image.now = omega arith in
+    remade_more _ loop.invariant inside
+    (c.stored.ensures
+    ∙ ap₂ (λ (w p : ℕ). stored_bits 8 w 0x00 (get_or loop.image loop.at 0) p)
+    (ap (λ (m : Masks). m.writable) c.masks_of-card.ensures.answer)
+    c.power_on_of-power.ensures.answer)
 
 pub returns : goal.returns
 unfolding initialized
@@ -31,5 +29,5 @@ returns c =
     let loop = c.loop-at in
     let a = c.args in
     let initial : ℕ → ℕ = λ k. initial_byte (row_of a.chip k) (get_or a.image.now k 0) in
-    filled_all loop.invariant.0.filled (omega (arith, c.loop-at-test.false, loop.invariant.1)) (column (length a.image.now) initial)
+    filled_all loop.invariant.filled (omega arith) (column (length a.image.now) initial)
     (column_length (length a.image.now) initial) (column_at (length a.image.now) initial)
