@@ -6,8 +6,8 @@ ghost use Rattle.refusal.specs.declared.Amount.TheVariants.{Of};
 ghost use Rattle.translation.specs.Promises.{Translates};
 ghost use Rattle.translate.specs.Inputs.{Holds};
 
-use libc::{STDERR_FILENO, STDIN_FILENO, STDOUT_FILENO};
 use refusal::Amount;
+use std::io::{Read, Stdin};
 
 #[derive(Clone, Copy)]
 enum Input {
@@ -16,16 +16,14 @@ enum Input {
 }
 
 // Fills the buffer until the input ends or the buffer is full, however the bytes arrive.
-fn read_all(buffer: &mut [u8]) -> Input
+fn read_all(mut input: Stdin, buffer: &mut [u8]) -> Input
     ensures { Holds buffer.new result }
 {
     let mut filled = 0;
     while filled < buffer.len() {
-        let got = libc::read(STDIN_FILENO, &mut buffer[filled..]);
-        if got < 0 {
+        let Ok(more) = input.read(&mut buffer[filled..]) else {
             return Input::Failed;
-        }
-        let more = io::count(got, &buffer[filled..]);
+        };
         if more == 0 {
             return Input::Bytes(filled);
         }
@@ -34,8 +32,9 @@ fn read_all(buffer: &mut [u8]) -> Input
     Input::Bytes(filled)
 }
 
-fn say(words: &[u8]) {
-    io::write_all(STDERR_FILENO, words);
+// Where standard error takes no words either, there is nobody left to tell.
+fn say(rt: HostRuntime, words: &[u8]) {
+    let _ = rt.stderr().write_all(words);
 }
 
 // No text is longer than 40,979 bytes, so none is refused: it stands at the front of the buffer.
@@ -49,19 +48,19 @@ fn text_of(input: &[u8], buffer: &mut [u8]) -> usize
     }
 }
 
-fn translated(input: &[u8]) {
+fn translated(rt: HostRuntime, input: &[u8]) {
     let mut text = [0u8; 40979];
     let length = text_of(input, &mut text);
-    if !io::write_all(STDOUT_FILENO, &text[..length]) {
-        say(b"translate: standard output cannot be written\n");
+    if rt.stdout().write_all(&text[..length]).is_err() {
+        say(rt, b"translate: standard output cannot be written\n");
     }
 }
 
 // One byte more than the longest input tells that an input is too long.
-fn main() {
+fn main(rt: HostRuntime) {
     let mut input = [0u8; 4097];
-    match read_all(&mut input) {
-        Input::Failed => say(b"translate: standard input cannot be read\n"),
-        Input::Bytes(length) => translated(&input[..length]),
+    match read_all(rt.stdin(), &mut input) {
+        Input::Failed => say(rt, b"translate: standard input cannot be read\n"),
+        Input::Bytes(length) => translated(rt, &input[..length]),
     }
 }
