@@ -1,5 +1,5 @@
 // Temperatures of the NCT7904D from bytes to steps, and from steps to bytes and back, and its voltages by the address of the high byte:
-// `temperature right_aligned bytes HHLL steps N`, `temperature right_aligned steps N bytes HHLL steps N`, `voltage input AA bytes HHLL microvolts N`.
+// `temperature right-aligned bytes HHLL steps N`, `temperature right-aligned steps N bytes HHLL steps N`, `voltage input AA bytes HHLL microvolts N`.
 use crate::Tally;
 use readings::Bytes;
 use std::io::{self, Stdout};

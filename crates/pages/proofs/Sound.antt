@@ -167,14 +167,14 @@ abbrev pub ordered : Table → Bool
 ordered table = cond table.counted (not table.leading) (behind 0 (recorded table))
 
 -- some positions are in a row from the first on, and their registers have these masks
-abbrev pub in_aRow : List Line → Masks → ℕ → List ℕ → Bool
-in_aRow card masks first [] = true
-in_aRow card masks first (p ∷ ps) =
+abbrev pub in_a_row : List Line → Masks → ℕ → List ℕ → Bool
+in_a_row card masks first [] = true
+in_a_row card masks first (p ∷ ps) =
     eqb first p
-    && (eqb masks.writable (row_in card p).writable && (eqb masks.clears (row_in card p).clears && in_aRow card masks (suc first) ps))
+    && (eqb masks.writable (row_in card p).writable && (eqb masks.clears (row_in card p).clears && in_a_row card masks (suc first) ps))
 
 abbrev pub is_stretch : List Line → List ℕ → Bool
-is_stretch card ps = in_aRow card (stretch_of card ps).masks (stretch_of card ps).first ps
+is_stretch card ps = in_a_row card (stretch_of card ps).masks (stretch_of card ps).first ps
 
 -- a table stands in stretches: its settings but for the last, the last, its speeds
 abbrev pub in_stretches : List Line → Table → Bool

@@ -22,7 +22,7 @@ use Rattle.pages.specs.Rows.{every, Line, Table, positions, row_in, with_masks, 
 use Rattle.pages.specs.Sheets.{longest, most_writes, Sheet, missing, room, has_table_in, table_in, whole_in, loaded, layout, laid_in, register_in, stretch_of, ground_in}
 use Rattle.pages.specs.Cards.{sheet_of, card_of, size_of, row_of, tables_of, has_table, table_of, shape_of, layout_of, ground_of}
 use Rattle.pages.proofs.Every.{both, of_every, everywhere, map_at, distinct, apart}
-use Rattle.pages.proofs.Sound.{stands, reaches, reaches_at, separate, counts, pointed, sized, of_shape, both_or_neither, alike, in_aRow, is_stretch, in_stretches, brief, Sound, sound_sheet}
+use Rattle.pages.proofs.Sound.{stands, reaches, reaches_at, separate, counts, pointed, sized, of_shape, both_or_neither, alike, in_a_row, is_stretch, in_stretches, brief, Sound, sound_sheet}
 
 -- tables have the numbers from 1 on
 numbered : (tables : List Table) (number : ℕ) → So (has_table_in tables number) → (1 ≤ number) × (number ≤ length tables)
@@ -58,7 +58,7 @@ position_among card (p ∷ ps) zero = refl
 position_among card (p ∷ ps) (suc k) = position_among card ps k
 
 -- positions that pass as a stretch are its registers, with the masks that the card has
-stretch_spread : (card : List Line) (masks : Masks) (first : ℕ) (ps : List ℕ) → So (in_aRow card masks first ps)
+stretch_spread : (card : List Line) (masks : Masks) (first : ℕ) (ps : List ℕ) → So (in_a_row card masks first ps)
     → map (with_masks masks) (from first (length ps)) ≡ map (register_at card) ps
 stretch_spread card masks first [] t = refl
 stretch_spread card masks first (p ∷ ps) t =

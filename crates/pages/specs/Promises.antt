@@ -53,7 +53,7 @@ pub record Lays (chip : Chip) (number : ℕ) (fan : Fan) : Type 0 where
 pub record LaysOut (chip : Chip) (number : ℕ) (facts : Layout) : Type 0 where
   pub answer : facts ≡ layout_of chip number
 
--- what `cards::ground_of` and `stretches` of a chip promise
+-- what `cards::ground_of` and `ground` of a chip promise
 pub record Stands (chip : Chip) (number : ℕ) (stretches : Ground) : Type 0 where
   pub answer : stretches ≡ ground_of chip number
 
@@ -73,6 +73,6 @@ pub record GoesWith (layout : Layout) (points : ℕ) (r : Bool) : Type 0 where
 pub record StandsInOneRow (first settings speeds : ℕ) (masks : Masks) (stretches : Ground) : Type 0 where
   pub answer : stretches ≡ in_one_row first settings speeds masks
 
--- what `pages::register_at` promises: the k-th register of the stretches, and none behind the last
+-- what `pages::register_at` promises: the k-th register of the ground, and none behind the last
 pub record StandsAt (stretches : Ground) (k : ℕ) (register : Register) : Type 0 where
   pub answer : register ≡ stands_at stretches k
