@@ -2,7 +2,7 @@
 // NCT80 voltages: `temperature width W bytes HHLL steps N`, `temperature width W steps N bytes HHLL steps N`, `voltage word HHLL microvolts N`.
 #![tactic(auto)]
 
-mod nct7904d;
+mod of_nct7904d;
 mod sensors;
 
 use readings::{Bytes, Steps};
@@ -197,5 +197,5 @@ fn main(rt: HostRuntime) -> io::Result<()> {
     temperatures(out)?;
     sensors::print_all(out)?;
     voltages(out)?;
-    nct7904d::print_all(out)
+    of_nct7904d::print_all(out)
 }
