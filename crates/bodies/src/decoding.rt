@@ -10,7 +10,7 @@ use curves::{MOST_POINTS, SlopeValues, StepValues};
 fn byte_at(body: &[u8], at: usize) -> u8
     ensures { result ≡ get_or body.now at 0 }
 {
-    if at < body.len() { body[at] } else { 0 }
+    body.get(at).copied().unwrap_or(0)
 }
 
 // The value of the k-th point, where the first one's stands at a place, and 0 behind the last point.
@@ -24,15 +24,12 @@ fn point_at(points: usize, first: usize, body: &[u8], k: usize) -> u8
     0
 }
 
+#[tactic(auto, unfolding(pages::specs::Rows::column))]
 fn points_in(points: usize, first: usize, body: &[u8]) -> [u8; MOST_POINTS]
     requires { first ≤ 256 }
     ensures { result ≡ points_in points first body.now }
 {
-    let mut values = [0u8; MOST_POINTS];
-    for k in 0..MOST_POINTS {
-        values[k] = point_at(points, first, body, k);
-    }
-    values
+    std::array::from_fn(|k| point_at(points, first, body, k))
 }
 
 // "high byte first"
@@ -40,19 +37,14 @@ fn word_at(body: &[u8], at: usize) -> u16
     requires { at ≤ 256 }
     ensures { result ≡ get_or body.now at 0 * 256 + get_or body.now (at + 1) 0 }
 {
-    byte_at(body, at) as u16 * 256 + byte_at(body, at + 1) as u16
+    u16::from_be_bytes([byte_at(body, at), byte_at(body, at + 1)])
 }
 
 // B1 to B4 lead.
 fn bounds_in(body: &[u8]) -> [u8; 4]
     ensures { result ≡ values_at body.now (from 0 4) }
 {
-    [
-        byte_at(body, 0),
-        byte_at(body, 1),
-        byte_at(body, 2),
-        byte_at(body, 3),
-    ]
+    std::array::from_fn(|k| byte_at(body, k))
 }
 
 // C1 to C5 stand behind B1 to B4.
@@ -60,20 +52,14 @@ fn bounds_in(body: &[u8]) -> [u8; 4]
 fn counts_in(body: &[u8]) -> [u16; 5]
     ensures { result ≡ words (values_at body.now (from 4 10)) }
 {
-    [
-        word_at(body, 4),
-        word_at(body, 6),
-        word_at(body, 8),
-        word_at(body, 10),
-        word_at(body, 12),
-    ]
+    std::array::from_fn(|k| word_at(body, 4 + 2 * k))
 }
 
 // A temperature for each point, critical, a duty for each point; or critical first.
 pub(crate) fn slope_in(leading: bool, points: u8, body: &[u8]) -> SlopeValues
     ensures { result ≡ slope_in leading points body.now }
 {
-    let count = points as usize;
+    let count = usize::from(points);
     if leading {
         return SlopeValues {
             temperatures: points_in(count, 1, body),

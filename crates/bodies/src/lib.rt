@@ -12,6 +12,7 @@ use pages::Shape;
 // No body has more bytes.
 pub const LONGEST: usize = 17;
 
+// Chip, table and points are three numbers here, as a record has them: a struct for them would be taken apart again in the plan.
 // The plan whose curve stands in a body's bytes, by whether critical leads there, with the number of points that its record carries.
 pub fn plan_of(shape: Shape, leading: bool, chip: u8, table: u8, points: u8, body: &[u8]) -> Plan
     ensures { Decodes leading shape chip table points body.now result }
@@ -39,17 +40,7 @@ pub fn body_of(shape: Shape, leading: bool, plan: Plan) -> [u8; LONGEST]
     ensures { EncodesBody leading shape plan result }
 {
     match shape {
-        Shape::Slope(points, _) => {
-            let values = plan.slope;
-            let temperatures = values.temperatures;
-            let duties = values.duties;
-            encoding::slope_bytes(leading, points, temperatures, values.critical, duties)
-        }
-        Shape::Steps => {
-            let values = plan.steps;
-            let bounds = values.bounds;
-            let counts = values.counts;
-            encoding::step_bytes(bounds, counts)
-        }
+        Shape::Slope(points, _) => encoding::slope_bytes(leading, points, plan.slope),
+        Shape::Steps => encoding::step_bytes(plan.steps),
     }
 }

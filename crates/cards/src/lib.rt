@@ -1,30 +1,16 @@
-// What the chips' pages say, looked up in the crate of the chip.
+// What the chips' pages say, looked up in the crate of the chip. Each look-up has its match over the chips: a table of functions or a dyn page could not
+// be handed out, and a trait of pages would still want the match.
 #![tactic(auto)]
 
-ghost use Rattle.pages.specs.Promises.{Names, Finds, Acts, Reports, PowersOn, TellsSizes, Requires, Lays, LaysOut, Stands, Selects, Positions};
+ghost use Rattle.pages.specs.Promises.{Finds, Acts, Reports, PowersOn, TellsSizes, Requires, Lays, LaysOut, Stands, Selects, Positions};
 
 use pages::{
-    Chip, Effects, Fan, Ground, Layout, Masks, NO_EFFECTS, NO_GROUND, NO_REGISTER, NOTHING, Named,
-    Register, Required, Selector, Shape, Sizes,
+    Chip, Effects, Ground, Layout, Masks, NO_EFFECTS, NO_GROUND, NO_REGISTER, NOTHING, Register,
+    Required, Selector, Shape, Sizes,
 };
 
 // How many bytes an image has at most.
 pub const GREATEST: usize = 1280;
-
-// The chip of a chip number, and none for every other number.
-#[tactic(auto, unfolding(pages::specs::Cards::sheet_of))]
-pub fn chip_of(number: u8) -> Named
-    ensures { Names number result }
-{
-    match number {
-        1 => Named::Known(Chip::Nct7802y),
-        2 => Named::Known(Chip::F75373s),
-        3 => Named::Known(Chip::Nct80),
-        4 => Named::Known(Chip::Nct7904d),
-        5 => Named::Known(Chip::W83793g),
-        _ => Named::Unknown,
-    }
-}
 
 // The masks of a register of the image, and none behind the card's end.
 pub fn masks_of(chip: Chip, position: usize) -> Masks
@@ -130,13 +116,13 @@ pub fn required_of(chip: Chip, k: usize) -> Required
 
 // The fan table of a number.
 #[tactic(auto, using(pages::proofs::Tables::none_laid), unfolding(pages::specs::Cards::sheet_of))]
-pub fn table_of(chip: Chip, number: u8) -> Fan
+pub fn table_of(chip: Chip, number: u8) -> Option<Layout>
     ensures { Lays chip number result }
 {
     match chip {
         Chip::Nct7802y => nct7802y::table(number),
         Chip::F75373s => f75373s::table(number),
-        Chip::Nct80 => Fan::Nothing,
+        Chip::Nct80 => None,
         Chip::Nct7904d => nct7904d::table(number),
         Chip::W83793g => w83793g::table(number),
     }
@@ -157,10 +143,7 @@ const MISSING: Layout = Layout {
 pub fn layout_of(chip: Chip, number: u8) -> Layout
     ensures { LaysOut chip number result }
 {
-    match table_of(chip, number) {
-        Fan::Laid(layout) => layout,
-        Fan::Nothing => MISSING,
-    }
+    table_of(chip, number).unwrap_or(MISSING)
 }
 
 // Where the registers of a fan table stand; nowhere where there is none.

@@ -1,28 +1,22 @@
 -- Limits and codes of the NCT80 in the logic's numbers: a byte as signed degrees, the code of a word, the bit of a channel, bits of two bytes in one.
 -- Assumes nothing.
-use Prim.Native.Nat.{ℕ, ◌+◌, ◌-◌, ◌*◌, ◌/◌, ◌%◌, ◌^◌, ◌<◌, ◌≤◌}
+use Prim.Native.Nat.{ℕ, ◌+◌, ◌*◌, ◌/◌, ◌%◌, ◌^◌, ◌<◌}
 use native.Mathlib.Nat.{mod-eq_of_lt}
 use native.Mathlib.Omega.{arith}
-use mathlib.Core.Path.{◌≡◌, refl, ap, ◌∙◌}
+use mathlib.Core.Path.{◌≡◌, ap, ◌∙◌}
 use mathlib.Core.Bool.{true}
 use lib.Bits.{bit_and, and_le_r}
 use lib.Dec.{ltb}
 use lib.Pow.{pow-lt}
-use lib.IntN.{negsuc, ◌+ℤ◌}
 use borrow.Author.Tests.{ltb-true}
 use mir.Syntax.{w8}
 use mir.Val.{Fits, to_z}
-use mir.Facts.{to_z_pos}
 use Rattle.readings.specs.Readings.{degrees_of, bits}
-use Rattle.readings.proofs.Words.{number_by, top_by}
+use Rattle.readings.proofs.Words.{number_by}
 
 -- the logic's reading of 8 bits is the paper's
 pub degrees_is : (n : ℕ) → n < 2 ^ 8 → to_z w8 n ≡ degrees_of n
 degrees_is n h = number_by 128 255 n h
-
--- the top bit counts -2 ^ 7
-pub top_counts : (n : ℕ) → 2 ^ 7 ≤ n → n < 2 ^ 8 → to_z w8 (n - 2 ^ 7) +ℤ negsuc 127 ≡ degrees_of n
-top_counts n l h = rw (to_z_pos w8 {n = n - 2 ^ 7} (omega arith)) (top_by 127 255 n refl l h)
 
 -- the ten-bit code of a word is what is left without its lowest six bits
 pub code_is : (word : ℕ) → word < 2 ^ 16 → bits 15 6 word ≡ word / 64

@@ -1,5 +1,6 @@
 -- When a sample of the chip is refused, 8 by the image's length, then 12 as the watch refuses it, and what a refused one and one that is taken leave.
 -- Assumes nothing.
+use Rattle.std.specs.Prelude.{Ok, Err}
 use Prim.Native.Nat.{ℕ}
 use mathlib.Core.Path.{◌≡◌, refl, sym, ap, ap₂, ◌∙◌}
 use mathlib.Core.Bool.{Bool, true, false, cond, not}
@@ -16,7 +17,6 @@ use Rattle.refusal.proofs.Passed.{when_passed, when_refused}
 use Rattle.pages.specs.Nct80.{hot_limit, hysteresis_limit}
 use Rattle.pages.specs.Cards.{sheet_of, chip_of, when_known, size_of}
 use Rattle.watch.specs.declared.Watch.{Watch}
-use Rattle.watch.specs.declared.Sampled.TheVariants.{Taken, Refused}
 use Rattle.watch.specs.Alarm.{is_sample, taken}
 use Rattle.watch.specs.Promises.{sample_checks}
 use Rattle.channels.specs.Channels.{State, voltages_taken, limit_in, fed, temperature_taken, sampled}
@@ -47,7 +47,7 @@ unfed steps state refusal = by_test (is_sample steps)
 
 module _ (old : List ℕ) (watch : Watch) (steps : ℤ) (words : List ℕ) where
   -- a refused sample leaves everything ..
-  pub refused_sample : (refusal : Refusal) → number_of refusal ≡ first (channel_checks old steps) → SamplesChannels old watch steps words (Refused refusal watch) old
+  pub refused_sample : (refusal : Refusal) → number_of refusal ≡ first (channel_checks old steps) → SamplesChannels old watch steps words (Err (record { refusal = refusal; watch = watch })) old
   refused_sample refusal e =
       record {
         answer = ap₂ (λ (n : ℕ) (w : Watch). (n, w)) e (when_refused refusal (leaves old watch steps words).watch watch e);
@@ -57,7 +57,7 @@ module _ (old : List ℕ) (watch : Watch) (steps : ℤ) (words : List ℕ) where
   -- .. and one that is taken is the temperature and then the voltages
   pub taken_sample : (middle new : List ℕ) (next : Watch) → first (channel_checks old steps) ≡ 0
       → ◌≡◌ {A = State} (record { image = middle; watch = next }) (temperature_taken steps (record { image = old; watch = watch })) → new ≡ voltages_taken 7 words middle
-      → SamplesChannels old watch steps words (Taken next) new
+      → SamplesChannels old watch steps words (Ok next) new
   unfolding sampled
   taken_sample middle new next none e h =
       record {

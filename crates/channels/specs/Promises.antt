@@ -1,10 +1,10 @@
 -- What the call of `channels` promises for every input: the paper's number, the watch, and every byte of the lent image.
 -- Assumes nothing.
-use Rattle.std.specs.Prelude.{ℕ, ◌≡◌, List, ◌∷◌, ℤ}
+use Rattle.std.specs.Prelude.{ℕ, ◌≡◌, List, ◌∷◌, ℤ, Result}
 use Rattle.refusal.specs.Checks.{Check, told_or, left}
 use Rattle.pages.specs.Cards.{not_an_image}
 use Rattle.watch.specs.declared.Watch.{Watch}
-use Rattle.watch.specs.declared.Sampled.{Sampled}
+use Rattle.watch.specs.declared.Refused.{Refused}
 use Rattle.watch.specs.Promises.{sample_checks, tells_sampled}
 use Rattle.channels.specs.Channels.{State, sampled}
 
@@ -17,6 +17,6 @@ abbrev pub leaves : List ℕ → Watch → ℤ → List ℕ → State
 leaves image watch steps words = sampled steps words (record { image = image; watch = watch })
 
 -- what `channels::sample` promises: "Refused: no byte, no fact altered"
-pub record SamplesChannels (old : List ℕ) (watch : Watch) (steps : ℤ) (words : List ℕ) (r : Sampled) (new : List ℕ) : Type 0 where
+pub record SamplesChannels (old : List ℕ) (watch : Watch) (steps : ℤ) (words : List ℕ) (r : Result Watch Refused) (new : List ℕ) : Type 0 where
   pub answer : tells_sampled r ≡ told_or watch (channel_checks old steps) (leaves old watch steps words).watch
   pub bytes : new ≡ left (channel_checks old steps) (leaves old watch steps words).image old

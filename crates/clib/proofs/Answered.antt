@@ -1,17 +1,17 @@
 -- What demand 1 says of an answer follows from how a contract says it: by `told_or` and `left` of the call's checks, and by what is packed of it.
 -- Assumes nothing.
+use Rattle.std.specs.Prelude.{Result, ⊤}
+use Rattle.refusal.specs.declared.Refusal.{Refusal}
 use Prim.Native.Nat.{ℕ, ◌<◌}
 use native.Mathlib.Omega.{arith}
 use mathlib.Core.Path.{◌≡◌, refl, ap, ◌∙◌}
-use mathlib.Core.Bool.{Bool, true, false, So, cond, ◌&&◌, and-eq-true_iff}
-use mathlib.Core.List.{List, [], ◌∷◌}
-use borrow.Author.Tests.{ltb-true, ne_eqb}
-use lib.Dec.{ltb}
-use Rattle.refusal.specs.declared.Outcome.{Outcome}
-use Rattle.refusal.specs.declared.Amount.{Amount}
+use mathlib.Core.Bool.{Bool, So}
+use mathlib.Core.List.{List, []}
+use borrow.Author.Tests.{ne_eqb}
 use Rattle.refusal.specs.Answers.{tells, tells_amount}
 use Rattle.refusal.specs.Checks.{Check, first, told_or, told, left}
 use Rattle.refusal.proofs.Passed.{none_told, all_left}
+use Rattle.translation.proofs.Bound.{below, first_below}
 use Rattle.curves.specs.declared.Plan.{Plan}
 use Rattle.records.specs.declared.Found.{Found}
 use Rattle.records.specs.Records.{no_plan}
@@ -38,10 +38,10 @@ pub never_refused : {A : Type 0} (none value : A) → Answered [] none (0, value
 never_refused none value = record { number = refl; zero = λ some. absurd (some refl) }
 
 -- a verdict; a count, and the buffer that was lent for what is counted
-pub verdict_answered : (r : Outcome) (checks : List Check) → tells r ≡ first checks → Answered checks tt (verdict r)
+pub verdict_answered : (r : Result ⊤ Refusal) (checks : List Check) → tells r ≡ first checks → Answered checks tt (verdict r)
 verdict_answered r checks e = record { number = e; zero = λ some. refl }
 
-pub count_answered : (r : Amount) (checks : List Check) (value : ℕ) (held : List ℕ) {old new : List ℕ} → tells_amount r ≡ told checks value → new ≡ left checks held old
+pub count_answered : (r : Result ℕ Refusal) (checks : List Check) (value : ℕ) (held : List ℕ) {old new : List ℕ} → tells_amount r ≡ told checks value → new ≡ left checks held old
     → Answered checks 0 (tells_amount r) × Kept (tells_amount r).0 old new
 count_answered r checks value held e l = with_buffer 0 checks value held e l
 
@@ -56,18 +56,7 @@ found_answered checks count plan r e p =
 
 -- each number of a list fits a byte
 abbrev pub small : List Check → Bool
-small [] = true
-small (c ∷ cs) = ltb c.1 256 && small cs
-
-first_small : (checks : List Check) → So (small checks) → first checks < 256
-first_small [] t = omega arith
-first_small ((applies, number) ∷ checks) t =
-    let both = (and-eq-true_iff (ltb number 256) (small checks)).0 t in
-    by_check applies (ltb-true number 256 both.0) (first_small checks both.1)
-  where
-    by_check : (applies : Bool) → number < 256 → first checks < 256 → cond applies number (first checks) < 256
-    by_check true h k = h
-    by_check false h k = k
+small checks = below 256 checks
 
 -- so what crosses tells the same
 pub crossing : (n value r : ℕ) → n < 256 → r ≡ packed n value → unpacked r ≡ (n, value)
@@ -82,7 +71,7 @@ crossing n value r h e = λ i. (refusal i, rest i)
 pub packed_answered : {A : Type 0} (value : A → ℕ) (checks : List Check) (none : A) (told : ℕ × A) {r : ℕ} → So (small checks)
     → Answered checks none told → r ≡ packed told.0 (value told.1) → Answered checks (value none) (unpacked r)
 packed_answered value checks none told {r} t A e =
-    let parts = crossing told.0 (value told.1) r (rw A.number (first_small checks t)) e in
+    let parts = crossing told.0 (value told.1) r (rw A.number (first_below 256 checks t)) e in
     let number = ap (λ (p : ℕ × ℕ). p.0) parts in
     record {
       number = number ∙ A.number;
@@ -93,18 +82,18 @@ packed_answered value checks none told {r} t A e =
 pub packed_kept : (checks : List Check) (n value r : ℕ) {old new : List ℕ} → So (small checks) → n ≡ first checks → r ≡ packed n value
     → Kept n old new → Kept (unpacked r).0 old new
 packed_kept checks n value r t number e k =
-    let parts = crossing n value r (rw number (first_small checks t)) e in
+    let parts = crossing n value r (rw number (first_below 256 checks t)) e in
     λ some. k (λ z. some (ap (λ (p : ℕ × ℕ). p.0) parts ∙ z))
 
 -- both, of a call that answers a verdict and of one that counts
-pub packed_verdict : (a : Outcome) (checks : List Check) (r : ℕ) (held : List ℕ) {old new : List ℕ} → So (small checks) → tells a ≡ first checks
+pub packed_verdict : (a : Result ⊤ Refusal) (checks : List Check) (r : ℕ) (held : List ℕ) {old new : List ℕ} → So (small checks) → tells a ≡ first checks
     → new ≡ left checks held old → r ≡ packed (tells a) 0 → Answered checks 0 (unpacked r) × Kept (unpacked r).0 old new
 packed_verdict a checks r held t e l p = (
   packed_answered (λ none. 0) checks tt (verdict a) t (verdict_answered a checks e) p,
   packed_kept checks (tells a) 0 r t e p (left_kept checks held e l),
 )
 
-pub packed_count : (a : Amount) (checks : List Check) (value r : ℕ) (held : List ℕ) {old new : List ℕ} → So (small checks) → tells_amount a ≡ told checks value
+pub packed_count : (a : Result ℕ Refusal) (checks : List Check) (value r : ℕ) (held : List ℕ) {old new : List ℕ} → So (small checks) → tells_amount a ≡ told checks value
     → new ≡ left checks held old → r ≡ packed (tells_amount a).0 (tells_amount a).1 → Answered checks 0 (unpacked r) × Kept (unpacked r).0 old new
 packed_count a checks value r held t e l p =
     let C = count_answered a checks value held e l in (
@@ -126,7 +115,7 @@ packed_buffer number checks none value held {told} {r} t e l p =
 pub used_answered : (checks : List Check) (f : Found) (r : ℕ) → So (small checks) → (tells_amount f.answer).0 ≡ first checks → r ≡ packs_found f
     → Answered checks 0 (unpacked r)
 used_answered checks f r t number e =
-    let parts = crossing (tells_amount f.answer).0 _ r (rw number (first_small checks t)) e in
+    let parts = crossing (tells_amount f.answer).0 _ r (rw number (first_below 256 checks t)) e in
     let same = ap (λ (p : ℕ × ℕ). p.0) parts in
     record {
       number = same ∙ number;

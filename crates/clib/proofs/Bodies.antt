@@ -1,13 +1,12 @@
 -- A plan that crosses is refused by 3, 4 or 5, or it is the plan in its body and the library checks what is left, in the same order.
 -- Assumes nothing.
+use Rattle.std.specs.Prelude.{Result, Ok, Err}
 use Prim.Native.Nat.{ℕ, ◌*◌}
 use native.Mathlib.Omega.{arith}
 use mathlib.Core.Path.{◌≡◌, ap, sym, ◌∙◌}
 use mathlib.Core.List.{List, ◌++◌}
 use lib.ListN.{length}
 use Rattle.refusal.specs.declared.Refusal.{Refusal}
-use Rattle.refusal.specs.declared.Amount.{Amount}
-use Rattle.refusal.specs.declared.Amount.TheVariants as amount
 use Rattle.refusal.specs.Refusals.{number_of}
 use Rattle.refusal.specs.Answers.{tells_amount}
 use Rattle.refusal.specs.Checks.{Check, first, room_checks}
@@ -15,8 +14,6 @@ use Rattle.refusal.proofs.Numbers.{number_of_positive}
 use Rattle.refusal.proofs.Passed.{first_refused, told_refused, when_refused, same_told, same_left}
 use Rattle.pages.specs.Cards.{layout_of}
 use Rattle.curves.specs.declared.Plan.{Plan}
-use Rattle.plans.specs.declared.Asked.{Asked}
-use Rattle.plans.specs.declared.Asked.TheVariants as asked
 use Rattle.plans.specs.Promises.{ask_plan_checks, order_checks, plan_checks, AsksPlan, AsksPlanBy}
 use Rattle.records.specs.declared.Found.{Found}
 use Rattle.curves.specs.Values.{Sized}
@@ -29,7 +26,7 @@ use Rattle.plays.specs.Promises.{start_checks, play_checks, Plays, PlaysBy}
 use Rattle.clib.specs.Bodies.{write_body_checks, script_body_checks, play_body_checks}
 
 -- a body that is refused
-module _ (chip table : ℕ) (body : List ℕ) (refusal : Refusal) (found : Found) (P : TakesBody chip table body found) (e : found.answer ≡ amount.Refused refusal) where
+module _ (chip table : ℕ) (body : List ℕ) (refusal : Refusal) (found : Found) (P : TakesBody chip table body found) (e : found.answer ≡ Err refusal) where
   pub body_refused : number_of refusal ≡ first (body_checks chip table body)
   body_refused = ap (λ (t : ℕ × ℕ). t.0) (ap tells_amount (sym e) ∙ P.answer)
 
@@ -40,21 +37,21 @@ module _ (chip table : ℕ) (body : List ℕ) (refusal : Refusal) (found : Found
       ∙ sym (first_refused (body_checks chip table body) (order_checks (plan_of chip table body) ++ more) (omega (arith, number_of_positive refusal, body_refused)))
 
   -- the call tells its number, and the buffer holds what it held
-  pub asks_refused : (t : ℕ) → AsksPlanBy (body_checks chip table body) (plan_of chip table body) t (asked.Refused refusal)
+  pub asks_refused : (t : ℕ) → AsksPlanBy (body_checks chip table body) (plan_of chip table body) t (Err refusal)
   asks_refused t = record { answer = told_refused refusal (body_checks chip table body) _ body_refused }
 
-  pub write_refused : (old : List ℕ) → WritesRecordBy (write_body_checks chip table body old) (plan_of chip table body) old (amount.Refused refusal) old
+  pub write_refused : (old : List ℕ) → WritesRecordBy (write_body_checks chip table body old) (plan_of chip table body) old (Err refusal) old
   write_refused old =
       let all = by_all (room_checks (length (encoded (plan_of chip table body))) old) in
       record { answer = told_refused refusal (write_body_checks chip table body old) _ all; bytes = when_refused refusal _ old all }
 
-  pub script_refused : (old : List ℕ) → ScriptsBy (script_body_checks chip table body old) (plan_of chip table body) old (amount.Refused refusal) old
+  pub script_refused : (old : List ℕ) → ScriptsBy (script_body_checks chip table body old) (plan_of chip table body) old (Err refusal) old
   script_refused old =
       let all = by_all (room_checks (2 * length (script_for (plan_of chip table body))) old) in
       record { answer = told_refused refusal (script_body_checks chip table body old) _ all; bytes = when_refused refusal _ old all }
 
   pub play_refused : (old : List ℕ) (count : ℕ)
-      → PlaysBy (play_body_checks chip table body old) (plan_of chip table body) old count (amount.Refused refusal) old
+      → PlaysBy (play_body_checks chip table body old) (plan_of chip table body) old count (Err refusal) old
   play_refused old count =
       let all = by_all (start_checks (plan_of chip table body) old) in
       record { answer = told_refused refusal (play_body_checks chip table body old) _ all; bytes = when_refused refusal _ old all }
@@ -66,7 +63,7 @@ pub record Crossed (chip table : ℕ) (body : List ℕ) (plan : Plan) : Type 0 w
   pub asks : first (ask_plan_checks (plan_of chip table body)) ≡ first (body_checks chip table body)
   pub checks : (more : List Check) → first (plan_checks (plan_of chip table body) ++ more) ≡ first (body_plan_checks chip table body ++ more)
 
-pub crossed : (chip table : ℕ) (body : List ℕ) (n : ℕ) (found : Found) → TakesBody chip table body found → found.answer ≡ amount.Of n
+pub crossed : (chip table : ℕ) (body : List ℕ) (n : ℕ) (found : Found) → TakesBody chip table body found → found.answer ≡ Ok n
     → Crossed chip table body found.plan
 crossed chip table body n found P e =
     let T = plan_taken chip table body n found P e in
@@ -84,12 +81,12 @@ module _ (chip table : ℕ) (body : List ℕ) {plan : Plan} (C : Crossed chip ta
   abbrev its : Plan
   its = plan_of chip table body
 
-  pub asks_crossed : {t : ℕ} {r : Asked} → AsksPlan plan t r → AsksPlanBy (body_checks chip table body) its t r
+  pub asks_crossed : {t : ℕ} {r : Result ℕ Refusal} → AsksPlan plan t r → AsksPlanBy (body_checks chip table body) its t r
   asks_crossed {t} {r} p =
       let q : AsksPlan its t r = rw C.same at p in
       record { answer = q.answer ∙ same_told 0 _ (ask_plan_checks its) (body_checks chip table body) C.asks }
 
-  pub write_crossed : {old new : List ℕ} {r : Amount} → WritesRecord plan old r new → WritesRecordBy (write_body_checks chip table body old) its old r new
+  pub write_crossed : {old new : List ℕ} {r : Result ℕ Refusal} → WritesRecord plan old r new → WritesRecordBy (write_body_checks chip table body old) its old r new
   write_crossed {old} {new} {r} p =
       let q : WritesRecord its old r new = rw C.same at p in
       let e = C.checks (room_checks (length (encoded its)) old) in
@@ -98,7 +95,7 @@ module _ (chip table : ℕ) (body : List ℕ) {plan : Plan} (C : Crossed chip ta
         bytes = q.bytes ∙ same_left _ old (write_checks its old) (write_body_checks chip table body old) e;
       }
 
-  pub script_crossed : {old new : List ℕ} {r : Amount} → Scripts plan old r new → ScriptsBy (script_body_checks chip table body old) its old r new
+  pub script_crossed : {old new : List ℕ} {r : Result ℕ Refusal} → Scripts plan old r new → ScriptsBy (script_body_checks chip table body old) its old r new
   script_crossed {old} {new} {r} p =
       let q : Scripts its old r new = rw C.same at p in
       let e = C.checks (room_checks (2 * length (script_for its)) old) in
@@ -107,7 +104,7 @@ module _ (chip table : ℕ) (body : List ℕ) {plan : Plan} (C : Crossed chip ta
         bytes = q.bytes ∙ same_left _ old (script_checks its old) (script_body_checks chip table body old) e;
       }
 
-  pub play_crossed : {old new : List ℕ} {count : ℕ} {r : Amount} → Plays plan old count r new
+  pub play_crossed : {old new : List ℕ} {count : ℕ} {r : Result ℕ Refusal} → Plays plan old count r new
       → PlaysBy (play_body_checks chip table body old) its old count r new
   play_crossed {old} {new} {count} {r} p =
       let q : Plays its old count r new = rw C.same at p in

@@ -1,5 +1,7 @@
 -- Demand 1 holds: each contract says what it answers and what it leaves by its own list of checks. Demand 2 holds: the round trips are those of `readings`, `right_readings` and `records`, and an image that is accepted has passed the check of its identity.
 -- Assumes nothing.
+use Rattle.std.specs.Prelude.{Result, Option, Ok, Err, Some}
+use Rattle.refusal.specs.declared.Refusal.{Refusal}
 use Prim.Native.Nat.{ℕ, ◌+◌, ◌*◌, min}
 use mathlib.Core.Path.{◌≡◌, refl, sym, ap, ◌∙◌}
 use mathlib.Core.Bool.{Bool, true, false, cond, not}
@@ -7,14 +9,10 @@ use mathlib.Core.List.{List, [], ◌∷◌}
 use lib.ListN.{length, get_or, take}
 use lib.IntN.{ℤ, pos}
 use borrow.Author.Tests.{not-false}
-use Rattle.refusal.specs.declared.Outcome.TheVariants.{Accepted}
 use Rattle.refusal.specs.Refusals.{number_of}
 use Rattle.refusal.specs.Checks.{first, told_or, told}
 use Rattle.refusal.proofs.Passed.{told_passed, told_refused, all_passed}
 use Rattle.pages.specs.declared.Chip.{Chip}
-use Rattle.pages.specs.declared.Named.{Named}
-use Rattle.pages.specs.declared.Named.TheVariants.{Known}
-use Rattle.pages.specs.declared.Fan.{Fan}
 use Rattle.pages.specs.declared.Layout.{Layout}
 use Rattle.pages.specs.Rows.{masks_in, required_in, column, in_one_row, stands_at}
 use Rattle.pages.specs.Banks.{one_bank, stands_in}
@@ -23,8 +21,6 @@ use Rattle.pages.specs.Cards.{sheet_of, banks_of, chip_of, chip_number, unknown,
 use Rattle.pages.specs.Promises.{Names, Lays}
 use Rattle.cards.proofs.Told.{names_told, lays_told}
 use Rattle.pages.specs.Identity.{confirmed}
-use Rattle.images.specs.declared.Admitted.{Admitted}
-use Rattle.images.specs.declared.Admitted.TheVariants as admitted
 use Rattle.images.specs.Bytes.{stored_at, position, seen}
 use Rattle.images.specs.Promises.{image_checks, tells_admitted}
 use Rattle.images.proofs.Admission.{admits_told}
@@ -34,7 +30,7 @@ use Rattle.readings.proofs.RoundTrip.{steps_come_back, bytes_come_back_cleared}
 use Rattle.right_readings.specs.Inputs.{input_voltage}
 use Rattle.right_readings.proofs.RoundTrip.{right_steps_come_back, right_bytes_come_back_cleared}
 use Rattle.watch.specs.declared.Watch.{Watch}
-use Rattle.watch.specs.declared.Sampled.{Sampled}
+use Rattle.watch.specs.declared.Refused.{Refused}
 use Rattle.watch.specs.Alarm.{fresh, taken, is_sample, acknowledged, shown, run, recorded}
 use Rattle.watch.specs.Promises as watch
 use Rattle.channels.specs.Promises.{channel_checks}
@@ -52,14 +48,14 @@ use Rattle.clib.specs.Demands.{Answered, Demand1, Demand2}
 use Rattle.clib.proofs.Answered.{told_answered, left_kept, verdict_answered, count_answered, found_answered, with_buffer, never_refused, packed_answered, packed_verdict, packed_count, packed_buffer, used_answered}
 
 -- where a number names no chip, and where a chip has no such table
-named_answered : (number : ℕ) (r : Named) → Names number r → Answered ((unknown number, 3) ∷ []) 0 (tells_named r)
+named_answered : (number : ℕ) (r : Result Chip Refusal) → Names number r → Answered ((unknown number, 3) ∷ []) 0 (tells_named r)
 named_answered number r p = told_answered 0 number ((unknown number, 3) ∷ []) (names_told p ∙ by_test (unknown number))
   where
     by_test : (b : Bool) → cond b (3, 0) (0, number) ≡ told ((b, 3) ∷ []) number
     by_test true = refl
     by_test false = refl
 
-laid_answered : (chip : Chip) (number : ℕ) (r : Fan) → Lays chip number r
+laid_answered : (chip : Chip) (number : ℕ) (r : Option Layout) → Lays chip number r
     → Answered ((not (has_table chip number), 4) ∷ []) (layout one_bank [] missing) (tells_fan r)
 laid_answered chip number r p =
     told_answered (layout one_bank [] missing) (layout_of chip number) ((not (has_table chip number), 4) ∷ [])
@@ -70,21 +66,21 @@ laid_answered chip number r p =
     by_test false facts = refl
 
 -- a plan that is accepted tells its chip, and any other the first check that it fails
-accept_answered : (plan : Plan) (r : Admitted) → Accepts plan r → Answered (plan_checks plan) 0 (tells_admitted r)
-accept_answered plan (admitted.Known chip) p =
+accept_answered : (plan : Plan) (r : Result Chip Refusal) → Accepts plan r → Answered (plan_checks plan) 0 (tells_admitted r)
+accept_answered plan (Ok chip) p =
     told_answered 0 (chip_number chip) (plan_checks plan) (told_passed (plan_checks plan) (chip_number chip) (accepted_plan chip p refl))
-accept_answered plan (admitted.Refused refusal) p =
+accept_answered plan (Err refusal) p =
     told_answered 0 0 (plan_checks plan) (told_refused refusal (plan_checks plan) 0 (refused_plan refusal p refl))
 
 -- a refused sample leaves the watch as it was
-sample_answered : (w : Watch) (steps high hysteresis : ℤ) (r : Sampled) → watch.Samples w steps high hysteresis r → Answered (watch.sample_checks steps) w (watch.tells_sampled r)
+sample_answered : (w : Watch) (steps high hysteresis : ℤ) (r : Result Watch Refused) → watch.Samples w steps high hysteresis r → Answered (watch.sample_checks steps) w (watch.tells_sampled r)
 sample_answered w steps high hysteresis r p = told_answered w (taken w steps high hysteresis) (watch.sample_checks steps) (p.answer ∙ by_test (is_sample steps))
   where
     by_test : (b : Bool) → (first ((not b, 12) ∷ []), cond b (taken w steps high hysteresis) w) ≡ told_or w ((not b, 12) ∷ []) (taken w steps high hysteresis)
     by_test true = refl
     by_test false = refl
 
-accepted_bits : (number : ℕ) (chip : Chip) (image : List ℕ) → chip_of number ≡ Known chip → Confirms number image Accepted → confirmed chip image ≡ true
+accepted_bits : (number : ℕ) (chip : Chip) (image : List ℕ) → chip_of number ≡ Some chip → Confirms number image (Ok tt) → confirmed chip image ≡ true
 accepted_bits number chip image e c = not-false (confirmed chip image) (rw e at (all_passed (identity_checks number image) refl (sym c.answer)).1.1.0)
 
 pub demand_1 : Demand1

@@ -1,34 +1,18 @@
 // A chip's state, an image and the watch beside it, whose facts the caller keeps between the calls: read, reset and sampled.
-ghost use Rattle.std.specs.Prelude.{◌≡◌, [], ◌∷◌};
-ghost use Rattle.clib.specs.Packed.{packs_byte, packs_reset};
+ghost use Rattle.std.specs.Prelude.{◌≡◌, ◌<◌, ◌^◌, [], ◌∷◌};
+ghost use Rattle.clib.specs.Packed.{with_byte};
 ghost use Rattle.clib.specs.Promises.{YkRead, YkReset, YkSampleImage};
 
-use crate::{alarm, facts, packing};
-use states::{ByteRead, ChipReset};
+use crate::{facts, packing};
+use watch::Watch;
 
-// The facts, and the byte above them; a refused read answers the facts as they were.
-fn of_byte(read: ByteRead) -> u64
-    ensures { result ≡ packs_byte read }
+// The facts, and the byte above them.
+fn facts_and_byte(read: (u8, Watch)) -> u64
+    ensures value { result ≡ with_byte read }
+    ensures upper_bound { result < 2 ^ 16 }
 {
-    match read {
-        ByteRead::Byte(byte, watch) => {
-            packing::packed(0, facts::facts_of(watch) + 256 * byte as u64)
-        }
-        ByteRead::Refused(refusal, watch) => {
-            packing::packed(refusal::number(refusal), facts::facts_of(watch))
-        }
-    }
-}
-
-fn of_reset(reset: ChipReset) -> u64
-    ensures { result ≡ packs_reset reset }
-{
-    match reset {
-        ChipReset::Done(watch) => packing::packed(0, facts::facts_of(watch)),
-        ChipReset::Refused(refusal, watch) => {
-            packing::packed(refusal::number(refusal), facts::facts_of(watch))
-        }
-    }
+    let (byte, watch) = read;
+    facts::facts_of(watch) + 256 * u64::from(byte)
 }
 
 #[unsafe(no_mangle)]
@@ -37,7 +21,7 @@ pub extern "C" fn yk_read(chip: u8, image: &mut [u8], address: u8, behaviour: u8
 {
     let watch = facts::watch_of(behaviour, facts);
     let read = states::read(chip, image, address, watch);
-    of_byte(read)
+    packing::of_facts(read.map(facts_and_byte))
 }
 
 #[unsafe(no_mangle)]
@@ -46,9 +30,10 @@ pub extern "C" fn yk_reset(chip: u8, image: &mut [u8], behaviour: u8, facts: u8)
 {
     let watch = facts::watch_of(behaviour, facts);
     let reset = states::reset(chip, image, watch);
-    of_reset(reset)
+    packing::of_facts(reset.map(facts::facts_of))
 }
 
+// The words one by one: the C interface has no array of seven.
 #[unsafe(no_mangle)]
 pub extern "C" fn yk_sample_image(
     image: &mut [u8],
@@ -68,5 +53,5 @@ pub extern "C" fn yk_sample_image(
     let watch = facts::watch_of(behaviour, facts);
     let words = [in0, in1, in2, in3, in4, in5, in6];
     let sampled = channels::sample(image, watch, steps, words);
-    alarm::of_sampled(sampled)
+    packing::of_facts(sampled.map(facts::facts_of))
 }

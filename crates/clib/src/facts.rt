@@ -1,9 +1,10 @@
 // A watch as numbers: its behaviour, and its facts as bits.
-ghost use Rattle.std.specs.Prelude.{◌≡◌, ◌≤◌, ◌<◌};
-ghost use Rattle.clib.specs.Facts.{bit, behaviour_of, watch_of, facts_of};
+ghost use Rattle.std.specs.Prelude.{◌≡◌, ◌<◌};
+ghost use Rattle.clib.specs.Facts.{behaviour_of, watch_of, facts_of};
 
 use watch::{Behaviour, Watch};
 
+// By hand: the numbers are the C interface's, of which `watch` knows nothing.
 pub(crate) fn behaviour_of(number: u8) -> Behaviour
     ensures { result ≡ behaviour_of number }
 {
@@ -24,20 +25,14 @@ pub(crate) fn watch_of(behaviour: u8, facts: u8) -> Watch
     }
 }
 
-fn bit(fact: bool) -> u64
-    ensures value { result ≡ bit fact }
-    ensures upper_bound { result ≤ 1 }
-{
-    if fact { 1 } else { 0 }
-}
-
 // The facts of a watch, and what its output shows.
+#[tactic(auto, unfolding(crate::specs::Facts::facts_of))]
 pub(crate) fn facts_of(watch: Watch) -> u64
     ensures value { result ≡ facts_of watch }
     ensures upper_bound { result < 8 }
 {
-    let hot = bit(watch.hot);
-    let pending = bit(watch.pending);
-    let output = bit(watch.output());
+    let hot = u64::from(watch.hot);
+    let pending = u64::from(watch.pending);
+    let output = u64::from(watch.output());
     hot + 2 * pending + 4 * output
 }

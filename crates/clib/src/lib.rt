@@ -1,4 +1,4 @@
-// The C boundary: each call of the library as a function on numbers and slices that answers one number.
+// The C boundary: each call of the library as a function on numbers and slices that answers one number. So parameters that travel together stay apart.
 #![tactic(auto)]
 
 mod alarm;

@@ -7,6 +7,6 @@ use crate::packing;
 pub extern "C" fn yk_translate(input: &[u8], out: &mut [u8]) -> u64
     ensures { YkTranslate input.now out.old result out.new }
 {
-    let text = translation::translate(input, out);
-    packing::of_amount(text)
+    let length = translation::translate(input, out);
+    packing::of_count(length)
 }

@@ -1,17 +1,16 @@
 -- A curve in register order: a list is spelled by its places, and a plan asks what its curve does.
 -- Assumes nothing.
-use Prim.Native.Nat.{ℕ, zero, suc, ◌+◌, ◌≤◌, min}
+use Prim.Native.Nat.{ℕ, zero, suc, ◌+◌, ◌≤◌}
 use native.Mathlib.Omega.{arith}
 use mathlib.Core.Path.{◌≡◌, refl, sym, ap, ◌∙◌}
-use mathlib.Core.List.{List, [], ◌∷◌, map}
-use lib.ListN.{length, get_or, take, drop, length-take}
-use lib.Seq.{drop-cons, take_all, take_at, get_or_at}
+use mathlib.Core.List.{List, ◌∷◌}
+use lib.ListN.{length, get_or, take, drop}
+use lib.Seq.{drop-cons, take_all}
 use Rattle.pages.specs.Rows.{from}
-use Rattle.pages.specs.declared.Shape.TheVariants.{Slope, Steps}
+use Rattle.pages.specs.declared.Shape.TheVariants.{Steps}
 use Rattle.curves.specs.declared.Plan.{Plan}
-use Rattle.curves.specs.Curves.{degree, points, slope, step_rule}
+use Rattle.curves.specs.Curves.{step_rule}
 use Rattle.curves.specs.Planned.{planned, values_at, asks}
-use Rattle.curves.specs.Values.{Sized}
 use Rattle.curves.proofs.StepLaws.{words_halves}
 
 -- what stands at n places in a row is a part of the list
@@ -25,18 +24,5 @@ pub spelled : (l : List ℕ) (n : ℕ) → length l ≡ n → values_at l (from 
 spelled l n h = in_a_row l 0 n (omega arith) ∙ take_all n l (omega arith)
 
 -- a plan asks what the curve of its registers asks
-pub planned_duty : (number full : ℕ) (plan : Plan) (t : ℕ) → Sized plan
-    → slope full (points (map degree (take number plan.slope.temperatures)) (take number plan.slope.duties))
-    (degree plan.slope.critical) (degree t)
-    ≡ asks (Slope number full) (planned (Slope number full) plan) t
-planned_duty number full plan t sized =
-    let ts = take number plan.slope.temperatures in
-    let n = length (take number plan.slope.duties) in
-    let h : length ts ≡ n =
-    length-take number plan.slope.temperatures
-    ∙ ap (min number) (sized.temperatures ∙ sym sized.duties)
-    ∙ sym (length-take number plan.slope.duties) in
-    rw (take_at ts (plan.slope.critical ∷ []) n h, get_or_at ts plan.slope.critical [] 0 n h)
-
 pub planned_count : (plan : Plan) (t : ℕ) → step_rule plan.steps.bounds plan.steps.counts t ≡ asks Steps (planned Steps plan) t
 planned_count plan t = rw (words_halves plan.steps.counts)

@@ -1,62 +1,78 @@
--- Loops that walk an array from the front: what is left to walk answers as the whole list does, so each loop's proof is its steps.
+-- What the library's searches say of a list is what the rules say: the first value that passes a test, and each value's order to the next.
 -- Assumes nothing.
 use Prim.Native.Nat.{ℕ, zero, suc, ◌+◌, ◌-◌, ◌≤◌, ◌<◌}
 use native.Mathlib.Numerals.{add-one}
 use native.Mathlib.Omega.{arith}
 use mathlib.Core.Path.{◌≡◌, refl, sym, ap, ◌∙◌}
-use mathlib.Core.Bool.{Bool, true, false, ◌&&◌}
+use mathlib.Core.Bool.{Bool, true, false, ◌&&◌, cond, not}
 use mathlib.Core.List.{List, [], ◌∷◌}
-use borrow.Author.Tests.{le-leb, lt-leb, lt-ltb, le-ltb}
-use lib.Dec.{leb}
-use lib.ListN.{length, get_or, drop, length-drop, drop_of_length-le}
-use lib.Seq.{drop-cons}
+use borrow.Author.Tests.{le-leb, lt-leb}
+use lib.Dec.{ltb, leb}
+use lib.ListN.{length, get_or}
+use Rattle.std.proofs.Common.{Some, None}
+use Rattle.std.specs.List.{IsAllAdjacentAnswer, position, position_or_len, slice_get}
+use Rattle.std.specs.Ordering.{is_some_and, is_le, nat_cmp}
+use Rattle.std.proofs.lemmas.Option.{get_or_from_slice_get, slice_get-get_or, none-some}
+use Rattle.std.proofs.lemmas.Grind.{common_steps}
+use Rattle.std.proofs.lemmas.List.Quantifiers.{position-Some}
+use Rattle.std.proofs.lemmas.List.Sums.{fails_before_first, prefix_len-le-length}
+use Rattle.std.proofs.lemmas.List.Sorted.{non_decreasing_from_is_sorted}
 use Rattle.curves.specs.Curves.{Point, points, mean, above, below, slope, step_rule}
 use Rattle.curves.specs.Orders.{chained, last_at_most}
 
--- an order test that has come to the place k, behind a first value
-pub record Chain (related : ℕ → ℕ → Bool) (l : List ℕ) (k : ℕ) : Type 0 where
-  pub behind : 1 ≤ k
-  pub same : chained related (drop (k - 1) l) ≡ chained related l
+-- where no value passes
+pub none_passes : (p : ℕ → Bool) (l : List ℕ) → position p l ≡ None → position_or_len p l ≡ length l
+none_passes p l h = grind (arith, common_steps, prefix_len-le-length (λ (x : ℕ). not (p x)) l)
 
-pub chain_start : (related : ℕ → ℕ → Bool) (l : List ℕ) → Chain related l 1
-chain_start related l = record { behind = omega arith; same = refl }
+chained_all : (related : ℕ → ℕ → Bool) (l : List ℕ) → ((k : ℕ) → suc k < length l → related (get_or l k 0) (get_or l (suc k) 0) ≡ true) → true ≡ chained related l
+chained_all related [] h = refl
+chained_all related (a ∷ []) h = refl
+chained_all related (a ∷ (b ∷ l)) h = rw (h 0 (omega arith)) (chained_all related (b ∷ l) (λ k m. h (suc k) (omega arith)))
 
--- one value alone is in order
-alone : (related : ℕ → ℕ → Bool) (l : List ℕ) → length l ≤ 1 → chained related l ≡ true
-alone related [] h = refl
-alone related (a ∷ []) h = refl
-alone related (a ∷ (b ∷ l)) h = absurd (omega arith)
+no_rest : (b rest : Bool) → false ≡ rest → false ≡ (b && rest)
+no_rest true rest h = h
+no_rest false rest h = refl
 
-module _ {related : ℕ → ℕ → Bool} {l : List ℕ} {k : ℕ} (C : Chain related l k) where
-  two : k < length l → drop (k - 1) l ≡ get_or l (k - 1) 0 ∷ (get_or l k 0 ∷ drop (suc k) l)
-  two h =
-      let next : suc (k - 1) ≡ k = omega (arith, C.behind) in
-      drop-cons l (k - 1) 0 (omega arith)
-      ∙ ap (λ (m : List ℕ). get_or l (k - 1) 0 ∷ m) (ap (λ (n : ℕ). drop n l) next ∙ drop-cons l k 0 h)
+chained_broken : (related : ℕ → ℕ → Bool) (l : List ℕ) (k : ℕ) → suc k < length l → related (get_or l k 0) (get_or l (suc k) 0) ≡ false → false ≡ chained related l
+chained_broken related [] k m h = absurd (omega arith)
+chained_broken related (a ∷ []) k m h = absurd (omega arith)
+chained_broken related (a ∷ (b ∷ l)) zero m h = rw h
+chained_broken related (a ∷ (b ∷ l)) (suc k) m h = no_rest (related a b) _ (chained_broken related (b ∷ l) k (omega arith) h)
 
-  -- what the test says of two values, and the rest
-  tested : {b : Bool} → k < length l → related (get_or l (k - 1) 0) (get_or l k 0) ≡ b → (b && chained related (get_or l k 0 ∷ drop (suc k) l)) ≡ chained related l
-  tested h e =
-      sym (ap (chained related) (two h) ∙ ap (λ (b : Bool). b && chained related (get_or l k 0 ∷ drop (suc k) l)) e) ∙ C.same
+-- what `is_sorted_by` answers of a relation
+pub in_chain : (related : ℕ → ℕ → Bool) (l : List ℕ) (r : Bool) → IsAllAdjacentAnswer (λ x y b. b ≡ related x y) l r → r ≡ chained related l
+in_chain related l true h = chained_all related l (λ k m. rw (add-one k) at (sym (h k 0 (omega arith))))
+in_chain related l false h = chained_broken related l h.0 (omega (arith, h.1)) (rw (add-one h.0) at (sym (h.2 0)))
 
-  pub chain_next : k < length l → related (get_or l (k - 1) 0) (get_or l k 0) ≡ true → Chain related l (k + 1)
-  chain_next h e =
-      let here : k + 1 - 1 ≡ k = omega arith in
-      record { behind = omega arith; same = ap (λ (n : ℕ). chained related (drop n l)) here ∙ ap (chained related) (drop-cons l k 0 h) ∙ tested h e }
+-- what `is_sorted` answers
+pub in_order : (l : List ℕ) (r : Bool) → IsAllAdjacentAnswer (λ x y b. is_some_and is_le (Some (nat_cmp x y)) ≡ b) l r → r ≡ chained leb l
+in_order l true h =
+    let rises = non_decreasing_from_is_sorted l true h in
+    chained_all leb l (λ k m. le-leb (get_or l k 0) (get_or l (suc k) 0) (rises k (suc k) 0 (omega arith) m))
+in_order l false h =
+    let falls = non_decreasing_from_is_sorted l false h in
+    chained_broken leb l falls.0 (omega (arith, falls.1)) (rw (add-one falls.0) at (lt-leb (get_or l falls.0 0) (get_or l (falls.0 + 1) 0) (falls.2 0)))
 
-  pub chain_broken : k < length l → related (get_or l (k - 1) 0) (get_or l k 0) ≡ false → false ≡ chained related l
-  chain_broken h e = tested h e
-
-  pub chain_whole : length l ≤ k → true ≡ chained related l
-  chain_whole h = sym (alone related (drop (k - 1) l) (omega (arith, length-drop (k - 1) l))) ∙ C.same
-
--- the last of n + 1 temperatures
-pub last_at : (l : List ℕ) (n critical : ℕ) → length l ≡ suc n → last_at_most l critical ≡ leb (get_or l n 0) critical
+-- the last of some temperatures, if there is one
+last_at : (l : List ℕ) (n critical : ℕ) → length l ≡ suc n → last_at_most l critical ≡ leb (get_or l n 0) critical
 last_at [] n critical e = absurd (omega arith)
 last_at (a ∷ []) zero critical e = refl
 last_at (a ∷ []) (suc n) critical e = absurd (omega arith)
 last_at (a ∷ (b ∷ l)) zero critical e = absurd (omega arith)
 last_at (a ∷ (b ∷ l)) (suc n) critical e = last_at (b ∷ l) n critical (omega arith)
+
+pub last_there : (l : List ℕ) (critical last : ℕ) → slice_get l (length l - 1) ≡ Some last → last_at_most l critical ≡ leb last critical
+last_there [] critical last found = absurd (cc)
+last_there (a ∷ l) critical last found =
+    let back : suc (length l) - 1 ≡ length l = omega arith in
+    last_at (a ∷ l) (length l) critical refl ∙ ap (λ (x : ℕ). leb x critical) (get_or_from_slice_get (a ∷ l) (length l) last 0 (rw back at found))
+
+pub last_missing : (l : List ℕ) (critical : ℕ) → slice_get l (length l - 1) ≡ None → last_at_most l critical ≡ true
+last_missing [] critical none = refl
+last_missing (a ∷ l) critical none =
+    let back : suc (length l) - 1 ≡ length l = omega arith in
+    let found = slice_get-get_or (a ∷ l) (length l) 0 (omega arith) in
+    absurd (none-some _ (sym (rw back at none) ∙ found))
 
 -- at critical and above, and below it
 pub slope_hot : (full : ℕ) (ps : List Point) (critical t : ℕ) → critical ≤ t → full ≡ slope full ps critical t
@@ -67,82 +83,69 @@ pub slope_cool : (full : ℕ) (ps : List Point) (critical t : ℕ) → t < criti
 unfolding slope
 slope_cool full ps critical t h = rw (lt-leb critical t h)
 
--- the slope rule that has come above the point k
-pub record Passed (full : ℕ) (ts ds : List ℕ) (t k : ℕ) : Type 0 where
-  pub within : k < length ts
-  pub even : length ts ≡ length ds
-  pub high : get_or ts k 0 < t
-  pub same : above (get_or ts k 0, get_or ds k 0) (points (drop (k + 1) ts) (drop (k + 1) ds)) t ≡ below full (points ts ds) t
+-- behind a first point: between the point before and the first one that T is at most, or above the last
+above_here : (ts ds : List ℕ) (a d t k : ℕ) → length ts ≡ length ds → k < length ts → leb t (get_or ts k 0) ≡ true → ((j : ℕ) → j < k → leb t (get_or ts j 0) ≡ false)
+    → mean (get_or (a ∷ ts) k 0, get_or (d ∷ ds) k 0) (get_or ts k 0, get_or ds k 0) t ≡ above (a, d) (points ts ds) t
+unfolding above
+above_here [] ds a d t k e l h g = absurd (omega arith)
+above_here (b ∷ ts) [] a d t k e l h g = absurd (omega arith)
+above_here (b ∷ ts) (c ∷ ds) a d t zero e l h g = rw h
+above_here (b ∷ ts) (c ∷ ds) a d t (suc k) e l h g =
+    rw (g 0 (omega arith)) (above_here ts ds b c t k (omega arith) (omega arith) h (λ j m. g (suc j) (omega arith)))
 
-pub below_none : (full : ℕ) (ts ds : List ℕ) (t : ℕ) → length ts ≡ 0 → full ≡ below full (points ts ds) t
+above_last : (ts ds : List ℕ) (a d t e : ℕ) → length ts ≡ length ds → ((j : ℕ) → j < length ts → leb t (get_or ts j 0) ≡ false)
+    → get_or (d ∷ ds) (length ds) e ≡ above (a, d) (points ts ds) t
+unfolding above
+above_last [] [] a d t e same g = refl
+above_last [] (c ∷ ds) a d t e same g = absurd (omega arith)
+above_last (b ∷ ts) [] a d t e same g = absurd (omega arith)
+above_last (b ∷ ts) (c ∷ ds) a d t e same g = rw (g 0 (omega arith)) (above_last ts ds b c t e (omega arith) (λ j m. g (suc j) (omega arith)))
+
+-- below critical, by the place of the first point that T is at most
+pub below_first : (full : ℕ) (ts ds : List ℕ) (t : ℕ) → length ts ≡ length ds → position (leb t) ts ≡ Some 0 → get_or ds 0 0 ≡ below full (points ts ds) t
 unfolding below
-below_none full [] ds t a = refl
-below_none full (u ∷ ts) ds t a = absurd (omega arith)
+below_first full ts ds t e found = by_list ts ds e (position-Some (leb t) ts 0 0 found)
+  where
+    by_list : (ts ds : List ℕ) → length ts ≡ length ds → (0 < length ts) × (leb t (get_or ts 0 0) ≡ true) × ((j : ℕ) → j < 0 → leb t (get_or ts j 0) ≡ false)
+        → get_or ds 0 0 ≡ below full (points ts ds) t
+    by_list [] ds e f = absurd (omega (arith, f.0))
+    by_list (b ∷ ts) [] e f = absurd (omega arith)
+    by_list (b ∷ ts) (c ∷ ds) e f = rw f.1
 
-pub below_first : (full : ℕ) (ts ds : List ℕ) (t : ℕ) → 0 < length ts → length ts ≡ length ds → t ≤ get_or ts 0 0
-    → get_or ds 0 0 ≡ below full (points ts ds) t
+pub below_here : (full : ℕ) (ts ds : List ℕ) (t k : ℕ) → length ts ≡ length ds → 0 < k → position (leb t) ts ≡ Some k
+    → mean (get_or ts (k - 1) 0, get_or ds (k - 1) 0) (get_or ts k 0, get_or ds k 0) t ≡ below full (points ts ds) t
 unfolding below
-below_first full [] ds t a b h = absurd (omega arith)
-below_first full (u ∷ ts) [] t a b h = absurd (omega arith)
-below_first full (u ∷ ts) (d ∷ ds) t a b h = rw (le-leb t u h)
+below_here full ts ds t k e some found = by_list ts ds k e some (position-Some (leb t) ts k 0 found)
+  where
+    by_list : (ts ds : List ℕ) (k : ℕ) → length ts ≡ length ds → 0 < k → (k < length ts) × (leb t (get_or ts k 0) ≡ true) × ((j : ℕ) → j < k → leb t (get_or ts j 0) ≡ false)
+        → mean (get_or ts (k - 1) 0, get_or ds (k - 1) 0) (get_or ts k 0, get_or ds k 0) t ≡ below full (points ts ds) t
+    by_list ts ds zero e some f = absurd (omega arith)
+    by_list [] ds (suc k) e some f = absurd (omega (arith, f.0))
+    by_list (b ∷ ts) [] (suc k) e some f = absurd (omega arith)
+    by_list (b ∷ ts) (c ∷ ds) (suc k) e some f =
+        let back : suc k - 1 ≡ k = omega arith in
+        rw (back, f.2 0 (omega arith)) (above_here ts ds b c t k (omega arith) (omega (arith, f.0)) f.1 (λ j m. f.2 (suc j) (omega arith)))
 
-pub passed_first : (full : ℕ) (ts ds : List ℕ) (t : ℕ) → 0 < length ts → length ts ≡ length ds → get_or ts 0 0 < t → Passed full ts ds t 0
+pub below_last : (full : ℕ) (ts ds : List ℕ) (t : ℕ) → length ts ≡ length ds → position (leb t) ts ≡ None → get_or ds (length ds - 1) full ≡ below full (points ts ds) t
 unfolding below
-passed_first full [] ds t a b h = absurd (omega arith)
-passed_first full (u ∷ ts) [] t a b h = absurd (omega arith)
-passed_first full (u ∷ ts) (d ∷ ds) t a b h = record { within = a; even = b; high = h; same = rw (lt-leb t u h) }
+below_last full ts ds t e none = by_list ts ds e (λ j m. fails_before_first (leb t) ts j 0 (omega (arith, none_passes (leb t) ts none)))
+  where
+    by_list : (ts ds : List ℕ) → length ts ≡ length ds → ((j : ℕ) → j < length ts → leb t (get_or ts j 0) ≡ false) → get_or ds (length ds - 1) full ≡ below full (points ts ds) t
+    by_list [] [] e g = refl
+    by_list [] (c ∷ ds) e g = absurd (omega arith)
+    by_list (b ∷ ts) [] e g = absurd (omega arith)
+    by_list (b ∷ ts) (c ∷ ds) e g =
+        let back : suc (length ds) - 1 ≡ length ds = omega arith in
+        rw (back, g 0 (omega arith)) (above_last ts ds b c t full (omega arith) (λ j m. g (suc j) (omega arith)))
 
-module _ {full : ℕ} {ts ds : List ℕ} {t k : ℕ} (P : Passed full ts ds t k) where
-  next_point : k + 1 < length ts → points (drop (k + 1) ts) (drop (k + 1) ds)
-      ≡ (get_or ts (k + 1) 0, get_or ds (k + 1) 0) ∷ points (drop (suc (k + 1)) ts) (drop (suc (k + 1)) ds)
-  next_point h = rw (drop-cons ts (k + 1) 0 h, drop-cons ds (k + 1) 0 (omega (arith, P.even)))
-
-  pub passed_here : k + 1 < length ts → t ≤ get_or ts (k + 1) 0
-      → mean (get_or ts k 0, get_or ds k 0) (get_or ts (k + 1) 0, get_or ds (k + 1) 0) t ≡ below full (points ts ds) t
-  unfolding above
-  passed_here h l = sym (rw (next_point h, le-leb t (get_or ts (k + 1) 0) l)) ∙ P.same
-
-  pub passed_next : k + 1 < length ts → get_or ts (k + 1) 0 < t → Passed full ts ds t (k + 1)
-  unfolding above
-  passed_next h l =
-      record {
-        within = h;
-        even = P.even;
-        high = l;
-        same = rw (add-one (k + 1)) (sym (rw (next_point h, lt-leb t (get_or ts (k + 1) 0) l)) ∙ P.same);
-      }
-
-  pub passed_last : length ts ≤ k + 1 → get_or ds k 0 ≡ below full (points ts ds) t
-  unfolding above
-  passed_last h = sym (rw (drop_of_length-le ts {i = k + 1} h)) ∙ P.same
-
--- the step rule that has come to the bound k
-pub record Stepped (bounds counts : List ℕ) (t k : ℕ) : Type 0 where
-  pub within : k ≤ length bounds
-  pub longer : length bounds < length counts
-  pub same : step_rule (drop k bounds) (drop k counts) t ≡ step_rule bounds counts t
-
-pub stepped_start : (bounds counts : List ℕ) (t : ℕ) → length bounds < length counts → Stepped bounds counts t 0
-stepped_start bounds counts t h = record { within = omega arith; longer = h; same = refl }
-
-module _ {bounds counts : List ℕ} {t k : ℕ} (S : Stepped bounds counts t k) where
-  pub stepped_here : k < length bounds → get_or bounds k 0 < t → get_or counts k 0 ≡ step_rule bounds counts t
-  unfolding step_rule
-  stepped_here h l =
-      sym (rw (drop-cons bounds k 0 h, drop-cons counts k 0 (omega (arith, S.longer)), lt-ltb (get_or bounds k 0) t l)) ∙ S.same
-
-  pub stepped_next : k < length bounds → t ≤ get_or bounds k 0 → Stepped bounds counts t (k + 1)
-  unfolding step_rule
-  stepped_next h l =
-      record {
-        within = omega arith;
-        longer = S.longer;
-        same =
-            rw (add-one k)
-            (sym (rw (drop-cons bounds k 0 h, drop-cons counts k 0 (omega (arith, S.longer)), le-ltb (get_or bounds k 0) t l)) ∙ S.same);
-      }
-
-  pub stepped_last : length bounds ≤ k → get_or counts k 0 ≡ step_rule bounds counts t
-  unfolding step_rule
-  stepped_last h =
-      sym (rw (drop_of_length-le bounds {i = k} h, drop-cons counts k 0 (omega (arith, S.longer, S.within)))) ∙ S.same
+-- the count of the first bound that T is above, or the one behind the last
+pub step_at : (bounds counts : List ℕ) (t : ℕ) → get_or counts (position_or_len (λ b. ltb b t) bounds) 0 ≡ step_rule bounds counts t
+unfolding step_rule
+step_at [] [] t = refl
+step_at [] (c ∷ counts) t = refl
+step_at (b ∷ bounds) [] t = refl
+step_at (b ∷ bounds) (c ∷ counts) t = by_test (ltb b t) (position_or_len (λ b. ltb b t) bounds) _ (step_at bounds counts t)
+  where
+    by_test : (past : Bool) (k rest : ℕ) → get_or counts k 0 ≡ rest → get_or (c ∷ counts) (cond (not past) (1 + k) 0) 0 ≡ cond past c rest
+    by_test true k rest e = refl
+    by_test false k rest e = let here : 1 + k ≡ suc k = omega arith in rw here e

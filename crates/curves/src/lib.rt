@@ -55,11 +55,7 @@ pub const NO_STEPS: StepValues = StepValues {
 pub fn count_of(points: u8) -> usize
     ensures { CountsPoints points result }
 {
-    let count = points as usize;
-    if count < MOST_POINTS {
-        return count;
-    }
-    MOST_POINTS
+    usize::from(points).min(MOST_POINTS)
 }
 
 // The speed that a plan's curve asks at a temperature: a duty or a count.
@@ -67,18 +63,8 @@ pub fn speed_of(shape: Shape, plan: Plan, t: u8) -> u16
     ensures { Asks shape plan t result }
 {
     match shape {
-        Shape::Slope(points, full) => {
-            let values = plan.slope;
-            let temperatures = values.temperatures;
-            let duties = values.duties;
-            slope::asked_duty(points, full, temperatures, values.critical, duties, t) as u16
-        }
-        Shape::Steps => {
-            let values = plan.steps;
-            let bounds = values.bounds;
-            let counts = values.counts;
-            steps::asked_count(bounds, counts, t)
-        }
+        Shape::Slope(points, full) => u16::from(plan.slope.asked_duty(points, full, t)),
+        Shape::Steps => steps::asked_count(plan.steps.bounds, plan.steps.counts, t),
     }
 }
 
@@ -87,34 +73,18 @@ pub fn temperatures_in_order(shape: Shape, plan: Plan) -> bool
     ensures { OrdersTemperatures shape plan result }
 {
     match shape {
-        Shape::Slope(points, _) => {
-            let values = plan.slope;
-            let temperatures = values.temperatures;
-            orders::rising_to_critical(points, temperatures, values.critical)
-        }
-        Shape::Steps => {
-            let values = plan.steps;
-            let bounds = values.bounds;
-            orders::falling(bounds)
-        }
+        Shape::Slope(points, _) => plan.slope.rising_to_critical(points),
+        Shape::Steps => plan.steps.bounds_fall(),
     }
 }
 
-// Whether a plan's duties or counts are in order.
+// Whether a plan's duties or counts are in order. The two orders are two promises: one function for both would take the rule of each shape.
 pub fn speeds_in_order(shape: Shape, plan: Plan) -> bool
     ensures { OrdersSpeeds shape plan result }
 {
     match shape {
-        Shape::Slope(points, _) => {
-            let values = plan.slope;
-            let duties = values.duties;
-            orders::duties_never_fall(points, duties)
-        }
-        Shape::Steps => {
-            let values = plan.steps;
-            let counts = values.counts;
-            orders::counts_never_fall(counts)
-        }
+        Shape::Slope(points, _) => plan.slope.duties_never_fall(points),
+        Shape::Steps => plan.steps.counts_never_fall(),
     }
 }
 

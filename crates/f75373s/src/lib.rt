@@ -8,13 +8,20 @@ ghost use Rattle.std.specs.Prelude.{◌≡◌};
 ghost use Rattle.pages.specs.declared.Chip.TheVariants.{F75373s};
 ghost use Rattle.pages.specs.F75373s.{card};
 ghost use Rattle.pages.specs.Rows.{row_in};
+ghost use Rattle.pages.specs.Cards.{row_of};
 ghost use Rattle.pages.specs.Promises.{Finds, PowersOn, Requires, Stands, Lays};
 
-use pages::{Fan, Ground, Layout, Masks, NO_GROUND, NO_MASKS, NOTHING, Required, Shape, one_row};
+use pages::{Ground, Layout, Masks, NO_GROUND, NOTHING, Required, Shape, one_row};
 use power_on::POWER_ON;
 use writable::WRITABLE;
 
-const SIZE: usize = 256;
+// The bits that may be written.
+#[tactic(auto, using(pages::proofs::Lines::writable_at, pages::proofs::Lines::writable_beyond), unfolding(pages::specs::Cards::sheet_of, pages::specs::Rows::column, pages::specs::F75373s::card))]
+fn writable_at(position: usize) -> u8
+    ensures { result ≡ (row_of F75373s position).writable }
+{
+    WRITABLE.get(position).copied().unwrap_or(0x00)
+}
 
 // The interrupt status registers alone have bits that clear on one.
 fn clears(position: usize) -> u8
@@ -27,14 +34,12 @@ fn clears(position: usize) -> u8
     }
 }
 
+#[tactic(auto, unfolding(pages::specs::Cards::sheet_of, pages::specs::Cards::row_of))]
 pub fn masks(position: usize) -> Masks
     ensures { Finds F75373s position result }
 {
-    if SIZE <= position {
-        return NO_MASKS;
-    }
     Masks {
-        writable: WRITABLE[position],
+        writable: writable_at(position),
         clears: clears(position),
     }
 }
@@ -43,10 +48,7 @@ pub fn masks(position: usize) -> Masks
 pub fn power(position: usize) -> u8
     ensures { PowersOn F75373s position result }
 {
-    if SIZE <= position {
-        return 0x00;
-    }
-    POWER_ON[position]
+    POWER_ON.get(position).copied().unwrap_or(0x00)
 }
 
 // The registers that identity looks at, all of them required.
@@ -102,11 +104,11 @@ pub fn ground(number: u8) -> Ground
 }
 
 #[tactic(auto, using(pages::proofs::Tables::laid_first, pages::proofs::Tables::none_laid), unfolding(pages::specs::Cards::sheet_of, pages::specs::F75373s::card))]
-pub fn table(number: u8) -> Fan
+pub fn table(number: u8) -> Option<Layout>
     ensures { Lays F75373s number result }
 {
     match number {
-        1..=2 => Fan::Laid(Layout {
+        1..=2 => Some(Layout {
             settings: 4,
             speeds: 10,
             shape: Shape::Steps,
@@ -115,6 +117,6 @@ pub fn table(number: u8) -> Fan
             leading: false,
             counted: false,
         }),
-        _ => Fan::Nothing,
+        _ => None,
     }
 }

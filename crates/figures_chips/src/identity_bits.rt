@@ -2,87 +2,67 @@
 // `identity chip C sees PPP MM`; of chips 4 and 5 with each bank code selected, `identity chip C select SS confirmed bits N`; of chip 5 each byte with
 // which a register is confirmed, `identity chip 5 select SS at PPP takes BB`.
 use crate::{banks, image_calls};
-use refusal::Outcome;
+use figures_printing::Placed;
 use std::io::{self, Stdout};
 
 fn turn(image: &mut [u8], at: usize, bit: u8) {
-    if at < image.len() {
-        image[at] = image[at] ^ (1u8 << (bit % 8));
-    }
-}
-
-// The bit where the image is not confirmed.
-fn undone(chip: u8, image: &[u8], bit: u8) -> u8 {
-    match identities::confirm(chip, image) {
-        Outcome::Accepted => 0,
-        Outcome::Refused(_) => 1u8 << (bit % 8),
+    if let Some(byte) = image.get_mut(at) {
+        *byte ^= bit;
     }
 }
 
 // The bits of a register that, each turned over by itself, undo the identity.
 fn seen(chip: u8, image: &mut [u8], at: usize) -> u8 {
-    let mut bits: u8 = 0;
-    for bit in 0..8u8 {
+    let mut bits = 0;
+    for bit in [0x01, 0x02, 0x04, 0x08, 0x10, 0x20, 0x40, 0x80] {
         turn(image, at, bit);
-        bits = bits | undone(chip, image, bit);
+        if identities::confirm(chip, image).is_err() {
+            bits |= bit;
+        }
         turn(image, at, bit);
     }
     bits
 }
 
+// Both loops below go by the position, since `seen` is lent the whole image.
 fn how_many(chip: u8, image: &mut [u8]) -> u32 {
     let mut count: u32 = 0;
     for at in 0..image.len() {
-        let bits = seen(chip, image, at);
-        count = std::num::wrapping_add_u32(count, u8::count_ones(bits));
+        count = count.wrapping_add(seen(chip, image, at).count_ones());
     }
     count
 }
 
-fn listed(out: Stdout, at: usize, bits: u8) -> io::Result<()> {
-    if bits != 0 {
-        figures_printing::placed(out, at, bits)?;
-    }
-    Ok(())
-}
-
 fn list(out: Stdout, chip: u8, image: &mut [u8]) -> io::Result<()> {
     for at in 0..image.len() {
-        let bits = seen(chip, image, at);
-        listed(out, at, bits)?;
+        let byte = seen(chip, image, at);
+        if byte != 0 {
+            print!(out; "{}", Placed { at, byte })?;
+        }
     }
     Ok(())
-}
-
-fn begin(out: Stdout, chip: u8) -> io::Result<()> {
-    figures_printing::labelled(out, b"identity chip ", chip as u64)
 }
 
 fn confirmed(out: Stdout, chip: u8, image: &mut [u8]) -> io::Result<()> {
     image_calls::identity(out, chip, image)?;
-    figures_printing::labelled(out, b" bits ", how_many(chip, image) as u64)?;
-    figures_printing::line_end(out)
+    println!(out; " bits {}", how_many(chip, image))
 }
 
 // Of the chip's own power-on image.
 fn at_power_on(out: Stdout, chip: u8, image: &mut [u8]) -> io::Result<()> {
-    images::reset(chip, image);
-    begin(out, chip)?;
-    figures_printing::text(out, b" power-on")?;
+    let _ = images::reset(chip, image);
+    print!(out; "identity chip {chip} power-on")?;
     confirmed(out, chip, image)?;
-    begin(out, chip)?;
-    figures_printing::text(out, b" sees")?;
+    print!(out; "identity chip {chip} sees")?;
     list(out, chip, image)?;
-    figures_printing::line_end(out)
+    println!(out)
 }
 
 // Of the power-on image with a bank selected.
 fn begin_selected(out: Stdout, chip: u8, image: &mut [u8], select: u8) -> io::Result<()> {
-    images::reset(chip, image);
+    let _ = images::reset(chip, image);
     banks::select(chip, image, select);
-    begin(out, chip)?;
-    figures_printing::text(out, b" select ")?;
-    figures_printing::byte(out, select)
+    print!(out; "identity chip {chip} select {select:02X}")
 }
 
 fn selected(out: Stdout, chip: u8, image: &mut [u8], select: u8) -> io::Result<()> {
@@ -90,77 +70,57 @@ fn selected(out: Stdout, chip: u8, image: &mut [u8], select: u8) -> io::Result<(
     confirmed(out, chip, image)
 }
 
-// Of chip 5 with bit 7 of the select register off and on.
-fn selected_by(out: Stdout, chip: u8, image: &mut [u8], code: u8) -> io::Result<()> {
-    selected(out, chip, image, code)?;
-    if chip == 5 {
-        selected(out, chip, image, code | 0x80)?;
-    }
-    Ok(())
-}
-
+// Each bank code, of chip 5 with bit 7 of the select register off and on.
 fn codes_of(out: Stdout, chip: u8, image: &mut [u8]) -> io::Result<()> {
-    for code in 0..8u8 {
-        selected_by(out, chip, image, code)?;
+    for code in 0..8 {
+        selected(out, chip, image, code)?;
+        if chip == 5 {
+            selected(out, chip, image, code | 0x80)?;
+        }
     }
     Ok(())
 }
 
-fn tried(out: Stdout, chip: u8, image: &mut [u8], at: usize, byte: u8) -> io::Result<()> {
-    banks::put(image, at, byte);
-    if let Outcome::Accepted = identities::confirm(chip, image) {
-        figures_printing::space(out)?;
-        figures_printing::byte(out, byte)?;
-    }
-    Ok(())
-}
-
-// Each of the 256 bytes.
-fn try_all(out: Stdout, chip: u8, image: &mut [u8], at: usize) -> io::Result<()> {
-    for byte in 0..=255u8 {
-        tried(out, chip, image, at, byte)?;
-    }
-    Ok(())
-}
-
+// Each of the 256 bytes is tried.
 fn takes(out: Stdout, select: u8, at: usize) -> io::Result<()> {
-    let mut image = [0u8; 768];
+    let mut image = [0; 768];
     begin_selected(out, 5, &mut image, select)?;
-    figures_printing::text(out, b" at ")?;
-    figures_printing::position(out, at)?;
-    figures_printing::text(out, b" takes")?;
-    try_all(out, 5, &mut image, at)?;
-    figures_printing::line_end(out)
+    print!(out; " at {at:03X} takes")?;
+    for byte in 0..=255 {
+        banks::put(&mut image, at, byte);
+        if identities::confirm(5, &image).is_ok() {
+            print!(out; " {byte:02X}")?;
+        }
+    }
+    println!(out)
 }
 
 // The vendor, chip and version registers.
-fn all_taken(out: Stdout, select: u8) -> io::Result<()> {
-    takes(out, select, 0x0D)?;
-    takes(out, select, 0x0E)?;
-    takes(out, select, 0x0F)
+fn all_taken(out: Stdout) -> io::Result<()> {
+    for select in [0x80, 0x00] {
+        for at in [0x0D, 0x0E, 0x0F] {
+            takes(out, select, at)?;
+        }
+    }
+    Ok(())
 }
 
 // Chip 3 has no identity rule: its own image, manufacturer byte and all, is refused.
 fn without(out: Stdout) -> io::Result<()> {
-    let mut image = [0u8; 256];
-    images::reset(3, &mut image);
-    begin(out, 3)?;
-    figures_printing::text(out, b" power-on")?;
+    let mut image = [0; 256];
+    let _ = images::reset(3, &mut image);
+    print!(out; "identity chip 3 power-on")?;
     image_calls::identity(out, 3, &image)?;
-    figures_printing::line_end(out)
+    println!(out)
 }
 
 pub fn print_all(out: Stdout) -> io::Result<()> {
-    let mut image = [0u8; 256];
-    at_power_on(out, 1, &mut image)?;
-    at_power_on(out, 2, &mut image)?;
-    let mut of_4 = [0u8; 1280];
-    at_power_on(out, 4, &mut of_4)?;
-    let mut of_5 = [0u8; 768];
-    at_power_on(out, 5, &mut of_5)?;
-    codes_of(out, 4, &mut of_4)?;
-    codes_of(out, 5, &mut of_5)?;
-    all_taken(out, 0x80)?;
-    all_taken(out, 0x00)?;
+    at_power_on(out, 1, &mut [0; 256])?;
+    at_power_on(out, 2, &mut [0; 256])?;
+    at_power_on(out, 4, &mut [0; 1280])?;
+    at_power_on(out, 5, &mut [0; 768])?;
+    codes_of(out, 4, &mut [0; 1280])?;
+    codes_of(out, 5, &mut [0; 768])?;
+    all_taken(out)?;
     without(out)
 }

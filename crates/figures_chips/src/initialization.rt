@@ -16,15 +16,10 @@ fn example() -> [u8; 256] {
 
 // What it holds where the request says so, and at 06h. The read of 01h clears that byte.
 fn read_back(out: Stdout, image: &mut [u8]) -> io::Result<()> {
-    bus::read(out, 3, image, 0x00)?;
-    bus::read(out, 3, image, 0x01)?;
-    bus::read(out, 3, image, 0x05)?;
-    bus::read(out, 3, image, 0x06)?;
-    bus::read(out, 3, image, 0x08)?;
-    bus::read(out, 3, image, 0x20)?;
-    bus::read(out, 3, image, 0x2A)?;
-    bus::read(out, 3, image, 0x3E)?;
-    bus::read(out, 3, image, 0x90)
+    for address in [0x00, 0x01, 0x05, 0x06, 0x08, 0x20, 0x2A, 0x3E, 0x90] {
+        bus::read(out, 3, image, address)?;
+    }
+    Ok(())
 }
 
 // Its two writes, and a third: of 7Fh all but bit 5 is stored. What the first left is read back from a copy, so that the next two show what a write

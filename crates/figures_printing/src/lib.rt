@@ -1,160 +1,104 @@
-// Pieces of a line, to standard output, for the programs that print figures. Nothing here alters a byte that it is lent, and each call answers only
-// whether its piece was written.
+// Pieces of a line, for the programs that print figures: what a format prints by `{}`. Nothing here alters a byte that it is lent.
 #![tactic(auto)]
 
-ghost use Rattle.std.specs.Prelude.{◌≡◌};
-ghost use Rattle.figures_printing.specs.Pieces.{upper_digit, all_filled};
+ghost use Rattle.std.specs.Prelude.{◌↔◌, IsTrue};
+ghost use Rattle.figures_printing.specs.Pieces.{all_filled};
 
-use refusal::{Amount, Refusal};
+use refusal::Refusal;
+use std::fmt;
 use std::io::{self, Stdout};
 
 // What a lent buffer is filled with beforehand, so that a line can say whether a refusal kept it.
 pub const FILL: u8 = 0x5A;
 
-pub fn text(out: Stdout, bytes: &[u8]) -> io::Result<()> {
-    out.write_all(bytes)
+// A byte of an image behind its position.
+#[derive(Clone, Copy)]
+pub struct Placed {
+    pub at: usize,
+    pub byte: u8,
 }
 
-pub fn space(out: Stdout) -> io::Result<()> {
-    text(out, b" ")
-}
+impl fmt::Display for Placed {
+    ghost use Rattle.std.specs.Prelude.{Some};
+    ghost use Rattle.figures_printing.specs.Pieces.{placed_text};
 
-pub fn line_end(out: Stdout) -> io::Result<()> {
-    text(out, b"\n")
-}
+    ghost output = { λ p. Some (placed_text p.at p.byte) };
 
-pub fn decimal(out: Stdout, n: u64) -> io::Result<()> {
-    print!(out; "{n}")
-}
-
-pub fn labelled(out: Stdout, label: &[u8], n: u64) -> io::Result<()> {
-    text(out, label)?;
-    decimal(out, n)
-}
-
-// The word of a number in two's complement.
-fn word_of(number: i16) -> u64 {
-    (number as i64 + 65536) as u64 % 65536
-}
-
-// A number with its sign, where that is a minus: what a word lacks to 65,536 is the magnitude also of -32,768.
-pub fn signed(out: Stdout, n: i16) -> io::Result<()> {
-    let word = word_of(n);
-    if n < 0 {
-        text(out, b"-")?;
-        decimal(out, 65536 - word % 65536)
-    } else {
-        decimal(out, word)
+    fn fmt<W: fmt::Write>(&self, f: &mut fmt::Formatter<W>) -> fmt::Result {
+        let at = self.at;
+        let byte = self.byte;
+        write!(f, " {at:03X} {byte:02X}")
     }
-}
-
-fn digit(d: u8) -> u8
-    ensures { result ≡ upper_digit d }
-{
-    let low = d % 16;
-    if low < 10 { 48 + low } else { 55 + low }
-}
-
-// A byte in two upper-case hexadecimal digits.
-pub fn byte(out: Stdout, b: u8) -> io::Result<()> {
-    let digits = [digit(b / 16), digit(b)];
-    text(out, &digits)
-}
-
-// A space before every second byte.
-fn gap(out: Stdout, k: usize) -> io::Result<()> {
-    if k % 2 == 0 {
-        space(out)?;
-    }
-    Ok(())
 }
 
 // Bytes in hexadecimal, two by two.
-pub fn bytes(out: Stdout, bytes: &[u8]) -> io::Result<()> {
-    for k in 0..bytes.len() {
-        gap(out, k)?;
-        byte(out, bytes[k])?;
-    }
-    Ok(())
-}
+#[derive(Clone, Copy)]
+pub struct Bytes<'a>(pub &'a [u8]);
 
-// A word in four upper-case hexadecimal digits.
-pub fn word(out: Stdout, w: u16) -> io::Result<()> {
-    byte(out, (w / 256) as u8)?;
-    byte(out, (w % 256) as u8)
-}
-
-// A position of an image in three upper-case hexadecimal digits.
-pub fn position(out: Stdout, at: usize) -> io::Result<()> {
-    let digits = [
-        digit((at / 256 % 16) as u8),
-        digit((at / 16 % 16) as u8),
-        digit((at % 16) as u8),
-    ];
-    text(out, &digits)
-}
-
-// A byte of an image behind its position.
-pub fn placed(out: Stdout, at: usize, b: u8) -> io::Result<()> {
-    space(out)?;
-    position(out, at)?;
-    space(out)?;
-    byte(out, b)
-}
-
-fn change(out: Stdout, at: usize, old: u8, new: u8) -> io::Result<()> {
-    if old != new {
-        placed(out, at, new)?;
-    }
-    Ok(())
-}
-
-// Each position whose byte has changed, and its byte now.
-pub fn changes(out: Stdout, old: &[u8], new: &[u8]) -> io::Result<()> {
-    for at in 0..old.len() {
-        if at < new.len() {
-            change(out, at, old[at], new[at])?;
+impl fmt::Display for Bytes<'_> {
+    fn fmt<W: fmt::Write>(&self, f: &mut fmt::Formatter<W>) -> fmt::Result {
+        for pair in self.0.chunks(2) {
+            f.write_str(" ")?;
+            for b in pair {
+                write!(f, "{b:02X}")?;
+            }
         }
-    }
-    Ok(())
-}
-
-// A fact of a watch, by its name.
-pub fn fact(out: Stdout, name: &[u8], on: bool) -> io::Result<()> {
-    text(out, name)?;
-    if on {
-        text(out, b" on")
-    } else {
-        text(out, b" off")
+        Ok(())
     }
 }
 
-pub fn refused(out: Stdout, r: Refusal) -> io::Result<()> {
-    labelled(out, b" refused ", refusal::number(r) as u64)
+// Each position whose byte differs in two images, and its byte in the second.
+#[derive(Clone, Copy)]
+pub struct Changes<'a> {
+    pub old: &'a [u8],
+    pub new: &'a [u8],
 }
 
-pub fn counted(out: Stdout, label: &[u8], answer: Amount) -> io::Result<()> {
+impl fmt::Display for Changes<'_> {
+    fn fmt<W: fmt::Write>(&self, f: &mut fmt::Formatter<W>) -> fmt::Result {
+        for (at, (old, new)) in self.old.iter().zip(self.new).enumerate() {
+            if old != new {
+                write!(f, "{}", Placed { at, byte: *new })?;
+            }
+        }
+        Ok(())
+    }
+}
+
+// A refusal, by its number.
+#[derive(Clone, Copy)]
+pub struct Refused(pub Refusal);
+
+impl fmt::Display for Refused {
+    fn fmt<W: fmt::Write>(&self, f: &mut fmt::Formatter<W>) -> fmt::Result {
+        write!(f, "refused {}", u8::from(self.0))
+    }
+}
+
+// The word for a fact of a watch, which stands behind the fact's name.
+pub fn on_off(fact: bool) -> &'static str {
+    if fact { "on" } else { "off" }
+}
+
+// An answer behind its label, or its refusal.
+pub fn counted<T: fmt::Display + Drop>(
+    out: Stdout,
+    label: &str,
+    answer: Result<T, Refusal>,
+) -> io::Result<()> {
     match answer {
-        Amount::Refused(r) => refused(out, r),
-        Amount::Of(n) => labelled(out, label, n as u64),
+        Err(r) => print!(out; " {}", Refused(r)),
+        Ok(n) => print!(out; "{label}{n}"),
     }
 }
 
 fn is_filled(buffer: &[u8]) -> bool
-    ensures { result ≡ all_filled buffer.now }
+    ensures { IsTrue result ↔ all_filled buffer.now }
 {
-    for k in 0..buffer.len() {
-        if buffer[k] != FILL {
-            return false;
-        }
-    }
-    true
+    buffer.iter().all(|&b| b == FILL)
 }
 
 // Says so where a buffer still is as it was filled.
-pub fn kept(out: Stdout, buffer: &[u8]) -> io::Result<()> {
-    if is_filled(buffer) {
-        text(out, b" kept")?;
-    }
-    Ok(())
+pub fn kept(buffer: &[u8]) -> &'static str {
+    if is_filled(buffer) { " kept" } else { "" }
 }

@@ -4,8 +4,8 @@ ghost use Rattle.pages.specs.Nct7802y as nct7802y;
 ghost use Rattle.pages.specs.Nct80 as nct80;
 ghost use Rattle.figures_readings.specs.Sensors.{sensor_of};
 
+use crate::coding::{self, Coding};
 use figures_printing::FILL;
-use states::ByteRead;
 use std::io::{self, Stdout};
 use watch::{Behaviour, Watch};
 
@@ -18,14 +18,14 @@ struct Sensor {
 }
 
 // RTD1, RTD2 and RTD3 of chip 1, counted from 0.
-fn remote_diode(k: u8) -> Sensor
+fn remote_diode(k: usize) -> Sensor
     requires { k < 3 }
     ensures { result ≡ sensor_of nct7802y.temperature k }
 {
     let high = [0x01u8, 0x02, 0x03];
     Sensor {
         width: 11,
-        high: high[k as usize],
+        high: high[k],
         low: 0x05,
     }
 }
@@ -43,33 +43,33 @@ fn on_chip() -> Sensor
 
 // Both bytes are read from the image, with a watch beside it. No sensor's register is a status register: the reads change neither.
 fn held(out: Stdout, chip: u8, image: &mut [u8], sensor: Sensor) -> io::Result<()> {
-    figures_printing::labelled(out, b"temperature chip ", chip as u64)?;
-    figures_printing::text(out, b" at ")?;
-    figures_printing::byte(out, sensor.high)?;
-    figures_printing::space(out)?;
-    figures_printing::byte(out, sensor.low)?;
+    print!(out;
+        "temperature chip {chip} at {:02X} {:02X}",
+        sensor.high, sensor.low
+    )?;
     let watch = Watch::new(Behaviour::Default);
-    let ByteRead::Byte(high, next) = states::read(chip, image, sensor.high, watch) else {
+    let Ok((high, watch)) = states::read(chip, image, sensor.high, watch) else {
         return Ok(());
     };
-    let ByteRead::Byte(low, _) = states::read(chip, image, sensor.low, next) else {
+    let Ok((low, _)) = states::read(chip, image, sensor.low, watch) else {
         return Ok(());
     };
-    crate::bytes(out, high, low)?;
-    crate::read(out, sensor.width, high, low)?;
-    figures_printing::line_end(out)
+    coding::read(
+        out,
+        Coding::Width(sensor.width),
+        u16::from_be_bytes([high, low]),
+    )
 }
 
 // Every byte but theirs is 5Ah, also that of LTD at 04h, and would make another temperature.
-fn remote_diodes(out: Stdout, rtd1: u8, rtd2: u8, rtd3: u8, low: u8) -> io::Result<()> {
+fn remote_diodes(out: Stdout, highs: [u8; 3], low: u8) -> io::Result<()> {
     let mut image = [FILL; 256];
-    image[0x01] = rtd1;
-    image[0x02] = rtd2;
-    image[0x03] = rtd3;
+    image[0x01..0x04].copy_from_slice(&highs);
     image[0x05] = low;
-    held(out, 1, &mut image, remote_diode(0))?;
-    held(out, 1, &mut image, remote_diode(1))?;
-    held(out, 1, &mut image, remote_diode(2))
+    for k in 0..3 {
+        held(out, 1, &mut image, remote_diode(k))?;
+    }
+    Ok(())
 }
 
 fn nct80(out: Stdout, high: u8, low: u8) -> io::Result<()> {
@@ -81,8 +81,8 @@ fn nct80(out: Stdout, high: u8, low: u8) -> io::Result<()> {
 
 // The low bits that do not count are ones: E7A0h of the rules paper and 1.125 and -127.875 degrees of the data sheet; 7D00h, C900h, FFF0h.
 pub fn print_all(out: Stdout) -> io::Result<()> {
-    remote_diodes(out, 0xE7, 0x19, 0x80, 0xBF)?;
-    remote_diodes(out, 0x7F, 0x01, 0x80, 0x3F)?;
+    remote_diodes(out, [0xE7, 0x19, 0x80], 0xBF)?;
+    remote_diodes(out, [0x7F, 0x01, 0x80], 0x3F)?;
     nct80(out, 0x7D, 0x0F)?;
     nct80(out, 0xC9, 0x0F)?;
     nct80(out, 0xFF, 0xFF)

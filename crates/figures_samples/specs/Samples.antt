@@ -1,28 +1,26 @@
 -- The plans that lines are about: the values that a line names, and zeros for the other chip's.
 -- Assumes nothing.
-use Rattle.std.specs.Prelude.{ℕ, List, [], ◌∷◌, get_or}
+use Rattle.std.specs.Prelude.{ℕ, List, [], ◌∷◌, get_or, map}
+use Rattle.std.specs.List.{range_with_len}
 use Rattle.curves.specs.declared.Plan.{Plan}
 use Rattle.curves.specs.Values.{no_slope, no_steps}
+
+-- up to eight points: the given ones, and zeros behind them
+abbrev pub in_eight : List ℕ → List ℕ
+in_eight points = map (λ k. get_or points k 0) (range_with_len 0 8)
 
 -- with the values of a slope and a point count
 abbrev pub pointed : ℕ → ℕ → ℕ → List ℕ → ℕ → List ℕ → Plan
 pointed chip table points temperatures critical duties =
-    record { chip = chip; table = table; points = points; slope = record { temperatures = temperatures; critical = critical; duties = duties }; steps = no_steps }
-
--- four points of eight, and seven of eight
-abbrev pub first_four : List ℕ → List ℕ
-first_four points = get_or points 0 0 ∷ get_or points 1 0 ∷ get_or points 2 0 ∷ get_or points 3 0 ∷ 0 ∷ 0 ∷ 0 ∷ 0 ∷ []
-
-abbrev pub first_seven : List ℕ → List ℕ
-first_seven points = get_or points 0 0 ∷ get_or points 1 0 ∷ get_or points 2 0 ∷ get_or points 3 0 ∷ get_or points 4 0 ∷ get_or points 5 0 ∷ get_or points 6 0 ∷ 0 ∷ []
+    record { chip = chip; table = table; points = points; slope = record { temperatures = in_eight temperatures; critical = critical; duties = in_eight duties }; steps = no_steps }
 
 -- with four points, as chips 1 and 4 have them
 abbrev pub sloped : ℕ → ℕ → List ℕ → ℕ → List ℕ → Plan
-sloped chip table temperatures critical duties = pointed chip table 0 (first_four temperatures) critical (first_four duties)
+sloped chip table temperatures critical duties = pointed chip table 0 temperatures critical duties
 
 -- of chip 5
 abbrev pub seven : ℕ → List ℕ → ℕ → List ℕ → Plan
-seven table temperatures critical duties = pointed 5 table 7 (first_seven temperatures) critical (first_seven duties)
+seven table temperatures critical duties = pointed 5 table 7 temperatures critical duties
 
 -- of chip 2
 abbrev pub stepped : ℕ → List ℕ → List ℕ → Plan
@@ -36,7 +34,7 @@ paper_for chip table = sloped chip table (30 ∷ 40 ∷ 50 ∷ 55 ∷ []) 60 (14
 -- the same with neither temperatures nor duties in order, and a point count
 abbrev pub muddled_for : ℕ → ℕ → ℕ → Plan
 muddled_for chip table points =
-    pointed chip table points (40 ∷ 30 ∷ 50 ∷ 55 ∷ 0 ∷ 0 ∷ 0 ∷ 0 ∷ []) 60 (140 ∷ 170 ∷ 200 ∷ 199 ∷ 0 ∷ 0 ∷ 0 ∷ 0 ∷ [])
+    pointed chip table points (40 ∷ 30 ∷ 50 ∷ 55 ∷ []) 60 (140 ∷ 170 ∷ 200 ∷ 199 ∷ [])
 
 -- a plan of chip 2 whose bytes are all different
 abbrev pub all_different : Plan
@@ -49,7 +47,7 @@ banked_for table = sloped 4 table (0xEC ∷ 0 ∷ 20 ∷ 50 ∷ []) 127 (0 ∷ 6
 -- the values of the request's plan of chip 5, for any table and point count
 abbrev pub counted_for : ℕ → ℕ → Plan
 counted_for table points =
-    pointed 5 table points (30 ∷ 35 ∷ 40 ∷ 45 ∷ 50 ∷ 55 ∷ 60 ∷ 0 ∷ []) 80 (8 ∷ 12 ∷ 16 ∷ 24 ∷ 32 ∷ 48 ∷ 56 ∷ 0 ∷ [])
+    pointed 5 table points (30 ∷ 35 ∷ 40 ∷ 45 ∷ 50 ∷ 55 ∷ 60 ∷ []) 80 (8 ∷ 12 ∷ 16 ∷ 24 ∷ 32 ∷ 48 ∷ 56 ∷ [])
 
 -- a plan of chip 5 whose bytes are all different, and none of them its register's at power-on
 abbrev pub other_seven : ℕ → Plan

@@ -2,82 +2,56 @@
 #![tactic(auto)]
 
 ghost use Rattle.std.specs.Prelude.{◌≡◌};
-ghost use Rattle.figures_samples.specs.Samples.{pointed as Samples·pointed, sloped, stepped as Samples·stepped, seven as Samples·seven, paper_for, muddled_for, all_different, banked_for, counted_for, other_seven, refused_at};
+ghost use Rattle.figures_samples.specs.Samples.{in_eight as Samples·in_eight, pointed as Samples·pointed, sloped, stepped as Samples·stepped, seven as Samples·seven, paper_for, muddled_for, all_different, banked_for, counted_for, other_seven, refused_at};
 
 use curves::{NO_SLOPE, NO_STEPS, Plan, SlopeValues, StepValues};
-use plans::Asked;
+use figures_printing::{Bytes, Refused};
+use refusal::Refusal;
 use std::io::{self, Stdout};
 
+// The points of a plan, which has room for eight: zeros stand behind fewer.
+fn in_eight(points: &[u8]) -> [u8; 8]
+    ensures { result ≡ Samples·in_eight points.now }
+{
+    std::array::from_fn(|k| points.get(k).copied().unwrap_or(0))
+}
+
 // A plan with the values of a slope and a point count, which is a matter of chip 5; another chip number may stand on it.
-pub fn pointed(
+pub fn pointed<const N: usize>(
     chip: u8,
     table: u8,
     points: u8,
-    temperatures: [u8; 8],
+    temperatures: [u8; N],
     critical: u8,
-    duties: [u8; 8],
+    duties: [u8; N],
 ) -> Plan
-    ensures { result ≡ Samples·pointed chip table points temperatures critical duties }
+    ensures { result ≡ Samples·pointed chip table points temperatures.entry critical duties.entry }
 {
     Plan {
         chip,
         table,
         points,
         slope: SlopeValues {
-            temperatures,
+            temperatures: in_eight(&temperatures),
             critical,
-            duties,
+            duties: in_eight(&duties),
         },
         steps: NO_STEPS,
     }
 }
 
-// A plan with four points, as chips 1 and 4 have them; zeros stand behind them.
+// A plan with four points, as chips 1 and 4 have them.
 pub fn slope(chip: u8, table: u8, temperatures: [u8; 4], critical: u8, duties: [u8; 4]) -> Plan
     ensures { result ≡ sloped chip table temperatures critical duties }
 {
-    pointed(
-        chip,
-        table,
-        0,
-        [
-            temperatures[0],
-            temperatures[1],
-            temperatures[2],
-            temperatures[3],
-            0,
-            0,
-            0,
-            0,
-        ],
-        critical,
-        [duties[0], duties[1], duties[2], duties[3], 0, 0, 0, 0],
-    )
+    pointed(chip, table, 0, temperatures, critical, duties)
 }
 
 // A plan of chip 5, with its seven points and their count.
 pub fn seven(table: u8, temperatures: [u8; 7], critical: u8, duties: [u8; 7]) -> Plan
     ensures { result ≡ Samples·seven table temperatures critical duties }
 {
-    pointed(
-        5,
-        table,
-        7,
-        [
-            temperatures[0],
-            temperatures[1],
-            temperatures[2],
-            temperatures[3],
-            temperatures[4],
-            temperatures[5],
-            temperatures[6],
-            0,
-        ],
-        critical,
-        [
-            duties[0], duties[1], duties[2], duties[3], duties[4], duties[5], duties[6], 0,
-        ],
-    )
+    pointed(5, table, 7, temperatures, critical, duties)
 }
 
 // A plan of chip 2.
@@ -108,9 +82,9 @@ fn muddled(chip: u8, table: u8, points: u8) -> Plan
         chip,
         table,
         points,
-        [40, 30, 50, 55, 0, 0, 0, 0],
+        [40, 30, 50, 55],
         60,
-        [140, 170, 200, 199, 0, 0, 0, 0],
+        [140, 170, 200, 199],
     )
 }
 
@@ -140,9 +114,9 @@ pub fn counted(table: u8, points: u8) -> Plan
         5,
         table,
         points,
-        [30, 35, 40, 45, 50, 55, 60, 0],
+        [30, 35, 40, 45, 50, 55, 60],
         80,
-        [8, 12, 16, 24, 32, 48, 56, 0],
+        [8, 12, 16, 24, 32, 48, 56],
     )
 }
 
@@ -235,65 +209,45 @@ pub fn refused(k: u8) -> Plan
 }
 
 pub fn head(out: Stdout, plan: Plan) -> io::Result<()> {
-    figures_printing::labelled(out, b" chip ", plan.chip as u64)?;
-    figures_printing::labelled(out, b" table ", plan.table as u64)
-}
-
-fn count(out: Stdout, count: u16) -> io::Result<()> {
-    figures_printing::space(out)?;
-    figures_printing::word(out, count)
+    print!(out; " chip {} table {}", plan.chip, plan.table)
 }
 
 // ` chip C table T points N`, then in hexadecimal eight temperatures, critical, eight duties, B1 to B4, C1 to C5.
 pub fn show(out: Stdout, plan: Plan) -> io::Result<()> {
     head(out, plan)?;
-    figures_printing::labelled(out, b" points ", plan.points as u64)?;
     let slope = plan.slope;
-    let temperatures = slope.temperatures;
-    figures_printing::bytes(out, &temperatures)?;
-    figures_printing::space(out)?;
-    figures_printing::byte(out, slope.critical)?;
-    let duties = slope.duties;
-    figures_printing::bytes(out, &duties)?;
     let steps = plan.steps;
-    let bounds = steps.bounds;
-    figures_printing::bytes(out, &bounds)?;
-    let counts = steps.counts;
-    count(out, counts[0])?;
-    count(out, counts[1])?;
-    count(out, counts[2])?;
-    count(out, counts[3])?;
-    count(out, counts[4])
+    print!(out;
+        " points {}{} {:02X}",
+        plan.points,
+        Bytes(&slope.temperatures),
+        slope.critical
+    )?;
+    print!(out; "{}{}", Bytes(&slope.duties), Bytes(&steps.bounds))?;
+    for count in steps.counts {
+        print!(out; " {count:04X}")?;
+    }
+    Ok(())
 }
 
 fn has_duties(chip: u8) -> bool {
-    match chip {
-        1 | 4 | 5 => true,
-        _ => false,
-    }
+    matches!(chip, 1 | 4 | 5)
 }
 
 // A temperature is signed for chips 1, 4 and 5.
 pub fn degrees(out: Stdout, chip: u8, t: u8) -> io::Result<()> {
     if has_duties(chip) {
-        if t >= 128 {
-            return figures_printing::labelled(out, b"-", 256 - t as u64);
-        }
+        print!(out; "{}", t.cast_signed())
+    } else {
+        print!(out; "{t}")
     }
-    figures_printing::decimal(out, t as u64)
 }
 
 // A duty in decimal, a count in hexadecimal.
-pub fn speed(out: Stdout, chip: u8, asked: Asked) -> io::Result<()> {
+pub fn speed(out: Stdout, chip: u8, asked: Result<u16, Refusal>) -> io::Result<()> {
     match asked {
-        Asked::Refused(r) => figures_printing::refused(out, r),
-        Asked::Speed(s) => {
-            figures_printing::space(out)?;
-            if has_duties(chip) {
-                figures_printing::decimal(out, s as u64)
-            } else {
-                figures_printing::word(out, s)
-            }
-        }
+        Err(r) => print!(out; " {}", Refused(r)),
+        Ok(s) if has_duties(chip) => print!(out; " {s}"),
+        Ok(s) => print!(out; " {s:04X}"),
     }
 }

@@ -6,9 +6,8 @@ ghost use Rattle.pages.specs.Cards.{size_of};
 ghost use Rattle.pages.specs.Identity.{holds, confirmed};
 ghost use Rattle.identities.specs.Promises.{Confirms};
 
-use images::Admitted;
 use pages::{Chip, Required};
-use refusal::{Outcome, Refusal};
+use refusal::Refusal;
 
 fn holds(image: &[u8], required: Required) -> bool
     requires { required.position < length image.now }
@@ -19,7 +18,8 @@ fn holds(image: &[u8], required: Required) -> bool
     (held == required.value) | (held == required.other)
 }
 
-// Where nothing is required, nothing is confirmed.
+// Where nothing is required, nothing is confirmed. The loop goes by number: the registers are asked of a look-up, since an array of them costs ten times as
+// much (docs/PERFORMANCE.md).
 fn confirmed(chip: Chip, image: &[u8]) -> bool
     requires { length image.now ≡ size_of chip }
     ensures { result ≡ confirmed chip image.now }
@@ -36,17 +36,12 @@ fn confirmed(chip: Chip, image: &[u8]) -> bool
 }
 
 // Whether the image is the chip's, by every bit that its identity names.
-pub fn confirm(chip: u8, image: &[u8]) -> Outcome
+pub fn confirm(chip: u8, image: &[u8]) -> Result<(), Refusal>
     ensures { Confirms chip image.now result }
 {
-    match images::admit(chip, image.len()) {
-        Admitted::Refused(refusal) => Outcome::Refused(refusal),
-        Admitted::Known(known) => {
-            if confirmed(known, image) {
-                Outcome::Accepted
-            } else {
-                Outcome::Refused(Refusal::IdentityNotConfirmed)
-            }
-        }
+    let known = images::admit(chip, image.len())?;
+    if !confirmed(known, image) {
+        return Err(Refusal::IdentityNotConfirmed);
     }
+    Ok(())
 }

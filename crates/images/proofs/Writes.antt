@@ -1,6 +1,8 @@
 -- What a write on the bus does to an image, by the effects of the register where it lands: where that only stores, it touches one position only. What lies
 -- above goes by these laws: no other crate opens `landed` or `initialized`.
 -- Assumes nothing.
+use Rattle.std.specs.Prelude.{Result, Some, ⊤}
+use Rattle.refusal.specs.declared.Refusal.{Refusal}
 use Prim.Native.Nat.{ℕ, ◌^◌, ◌<◌}
 use native.Mathlib.Omega.{arith}
 use mathlib.Core.Path.{◌≡◌, refl, sym, ap, subst, ◌∙◌}
@@ -11,11 +13,9 @@ use borrow.Author.Tests.{eq-eqb}
 use lib.Bits.{bit_and, and_zero_r, and_le_l}
 use lib.Dec.{eqb}
 use lib.ListN.{length, get_or}
-use Rattle.refusal.specs.declared.Outcome.{Outcome}
 use Rattle.refusal.specs.Answers.{tells}
 use Rattle.pages.specs.declared.Chip.{Chip}
 use Rattle.pages.specs.declared.Effects.{Effects}
-use Rattle.pages.specs.declared.Named.TheVariants.{Known}
 use Rattle.pages.specs.Rows.{masks_in, mask_of, no_effects}
 use Rattle.pages.specs.Cards.{sheet_of, chip_of, row_of, effects_of, size_of}
 use Rattle.pages.proofs.Acting as acting
@@ -126,8 +126,8 @@ written_alone chip address byte image e =
     (acting.effects_quiet chip at (subst (λ (ls : List (ℕ × Effects)). So (none_of (map (λ l. l.0) ls) at)) (sym e) refl))
 
 -- "A write to a row without masks is accepted and changes nothing."
-pub write_closed : (number : ℕ) (chip : Chip) (address byte : ℕ) (old : List ℕ) {r : Outcome} {new : List ℕ}
-    → chip_of number ≡ Known chip → length old ≡ size_of chip
+pub write_closed : (number : ℕ) (chip : Chip) (address byte : ℕ) (old : List ℕ) {r : (Result ⊤ Refusal)} {new : List ℕ}
+    → chip_of number ≡ Some chip → length old ≡ size_of chip
     → (row_of chip (position chip old address)).writable ≡ 0 → (row_of chip (position chip old address)).clears ≡ 0 → seen chip address old < 2 ^ 8
     → WritesByte number old address byte r new → (tells r ≡ 0) × (new ≡ old)
 write_closed number chip address byte old named long e f h p =

@@ -8,10 +8,7 @@ use pages::{Chip, Masks, Register};
 pub(crate) fn byte_at(image: &[u8], at: usize) -> u8
     ensures { result ≡ get_or image.now at 0 }
 {
-    if at < image.len() {
-        return image[at];
-    }
-    0
+    image.get(at).copied().unwrap_or(0)
 }
 
 // The bank that is selected.
@@ -34,8 +31,7 @@ pub(crate) fn position(chip: Chip, image: &[u8], address: u8) -> usize
 fn initialize(chip: Chip, image: &mut [u8])
     ensures { image.new ≡ initialized chip image.old }
 {
-    for at in 0..image.len() {
-        let old = image[at];
+    for (at, byte) in image.iter_mut().enumerate() {
         let power = cards::power_on_of(chip, at);
         let card = cards::masks_of(chip, at);
         let writable = card.writable;
@@ -43,7 +39,7 @@ fn initialize(chip: Chip, image: &mut [u8])
             writable,
             clears: 0x00,
         };
-        image[at] = bytes::stored(masks, old, power);
+        *byte = bytes::stored(masks, *byte, power);
     }
 }
 

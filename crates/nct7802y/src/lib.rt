@@ -4,23 +4,29 @@
 mod power_on;
 mod writable;
 
+ghost use Rattle.std.specs.Prelude.{◌≡◌};
 ghost use Rattle.pages.specs.declared.Chip.TheVariants.{Nct7802y};
+ghost use Rattle.pages.specs.Cards.{row_of};
 ghost use Rattle.pages.specs.Promises.{Finds, PowersOn, Requires, Stands, Lays};
 
-use pages::{Fan, Ground, Layout, Masks, NO_GROUND, NO_MASKS, NOTHING, Required, Shape, one_row};
+use pages::{Ground, Layout, Masks, NO_GROUND, NOTHING, Required, Shape, one_row};
 use power_on::POWER_ON;
 use writable::WRITABLE;
 
-const SIZE: usize = 256;
+// The bits that may be written.
+#[tactic(auto, using(pages::proofs::Lines::writable_at, pages::proofs::Lines::writable_beyond), unfolding(pages::specs::Cards::sheet_of, pages::specs::Rows::column, pages::specs::Nct7802y::card))]
+fn writable_at(position: usize) -> u8
+    ensures { result ≡ (row_of Nct7802y position).writable }
+{
+    WRITABLE.get(position).copied().unwrap_or(0x00)
+}
 
+#[tactic(auto, using(pages::proofs::Lines::clearless), unfolding(pages::specs::Cards::sheet_of, pages::specs::Nct7802y::card))]
 pub fn masks(position: usize) -> Masks
     ensures { Finds Nct7802y position result }
 {
-    if SIZE <= position {
-        return NO_MASKS;
-    }
     Masks {
-        writable: WRITABLE[position],
+        writable: writable_at(position),
         clears: 0x00,
     }
 }
@@ -29,10 +35,7 @@ pub fn masks(position: usize) -> Masks
 pub fn power(position: usize) -> u8
     ensures { PowersOn Nct7802y position result }
 {
-    if SIZE <= position {
-        return 0x00;
-    }
-    POWER_ON[position]
+    POWER_ON.get(position).copied().unwrap_or(0x00)
 }
 
 // The registers that identity looks at, all of them required.
@@ -95,11 +98,11 @@ pub fn ground(number: u8) -> Ground
 }
 
 #[tactic(auto, using(pages::proofs::Tables::laid_first, pages::proofs::Tables::none_laid), unfolding(pages::specs::Cards::sheet_of, pages::specs::Nct7802y::card))]
-pub fn table(number: u8) -> Fan
+pub fn table(number: u8) -> Option<Layout>
     ensures { Lays Nct7802y number result }
 {
     match number {
-        1..=3 => Fan::Laid(Layout {
+        1..=3 => Some(Layout {
             settings: 5,
             speeds: 4,
             shape: Shape::Slope(4, 255),
@@ -108,6 +111,6 @@ pub fn table(number: u8) -> Fan
             leading: false,
             counted: false,
         }),
-        _ => Fan::Nothing,
+        _ => None,
     }
 }

@@ -18,9 +18,10 @@ ghost use Rattle.pages.specs.Nct7904d.{card};
 ghost use Rattle.pages.specs.Rows.{row_in, every_bit, stretch};
 ghost use Rattle.pages.specs.Promises.{Finds, PowersOn, Requires, Stands, Lays, Positions};
 
-use pages::{Fan, Ground, Layout, Masks, NO_GROUND, NOTHING, Required, Shape, Stretch};
+use pages::{Ground, Layout, Masks, NO_GROUND, NOTHING, Required, Shape, Stretch};
 
-// A bank at a time.
+// A bank at a time, and a match for each column: a column that is handed to one function for both is built on the stack at each use, all banks of it
+// (docs/PERFORMANCE.md). A position is 256 times the bank plus the address, of which `to_be_bytes` would make eight bytes.
 fn writable(bank: usize, address: usize) -> u8
     requires { address < 256 }
     ensures { result ≡ (row_in card (bank * 256 + address)).writable }
@@ -70,10 +71,7 @@ pub fn position(bank: u8, address: u8) -> usize
     ensures { Positions Nct7904d bank address result }
 {
     match address {
-        0x7A => 0x7A,
-        0x7B => 0x7B,
-        0x7C => 0x7C,
-        0xFF => 0xFF,
+        0x7A | 0x7B | 0x7C | 0xFF => address as usize,
         _ => bank as usize * 256 + address as usize,
     }
 }
@@ -175,11 +173,11 @@ pub fn ground(number: u8) -> Ground
 }
 
 #[tactic(auto, using(pages::proofs::Tables::laid_first, pages::proofs::Tables::none_laid), unfolding(pages::specs::Cards::sheet_of, pages::specs::Nct7904d::card, pages::specs::Nct7904dBank0::bank, pages::specs::Nct7904dBank1::bank, pages::specs::Nct7904dBank2::bank, pages::specs::Nct7904dBank3::bank, pages::specs::Nct7904dBank4::bank))]
-pub fn table(number: u8) -> Fan
+pub fn table(number: u8) -> Option<Layout>
     ensures { Lays Nct7904d number result }
 {
     match number {
-        1..=10 => Fan::Laid(Layout {
+        1..=10 => Some(Layout {
             settings: 5,
             speeds: 4,
             shape: Shape::Slope(4, 255),
@@ -188,6 +186,6 @@ pub fn table(number: u8) -> Fan
             leading: true,
             counted: false,
         }),
-        _ => Fan::Nothing,
+        _ => None,
     }
 }

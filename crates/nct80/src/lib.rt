@@ -59,6 +59,7 @@ fn row_at(position: usize) -> Row
     }
 }
 
+#[tactic(auto, using(pages::proofs::Lines::clearless), unfolding(pages::specs::Cards::sheet_of, pages::specs::Nct80::card))]
 pub fn masks(position: usize) -> Masks
     ensures { Finds Nct80 position result }
 {

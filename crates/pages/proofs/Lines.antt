@@ -11,10 +11,10 @@ use borrow.Author.Tests.{leb-true, ltb-true, eq-eqb, ne_eqb}
 use lib.Dec.{leb, ltb}
 use lib.ListN.{length, get_or}
 use Rattle.pages.specs.declared.Chip.{Chip}
-use Rattle.pages.specs.Rows.{every, Line, Row, row, row_in, masks_in, column}
+use Rattle.pages.specs.Rows.{every, Line, Row, row, row_in, column}
 use Rattle.pages.specs.Sheets.{Sheet, power_on_in}
 use Rattle.pages.specs.Cards.{sheet_of, card_of, banks_of, row_of, size_of, power_on}
-use Rattle.pages.proofs.Columns.{column_at, masks_of_column}
+use Rattle.pages.proofs.Columns.{column_at}
 use Rattle.pages.proofs.Carried.{carried, unclearing, clears_none}
 use Rattle.pages.proofs.Every.{both}
 use Rattle.pages.proofs.Sound.{seen_at, rising, Sound, sound_sheet}
@@ -95,18 +95,17 @@ module _ (chip : Chip) (position : ℕ) where
   unfolding row_of
   power_beyond h = ap (λ (r : Row). r.power) (sym (row_beyond (size_of chip) 0x00 (card_of chip) (sound_sheet chip).lines position h))
 
-  pub masks_beyond : size_of chip ≤ position → masks_in (row 0x00 0x00 0x00) ≡ masks_in (row_of chip position)
+  pub writable_beyond : size_of chip ≤ position → 0x00 ≡ (row_of chip position).writable
   unfolding row_of
-  masks_beyond h = ap masks_in (sym (row_beyond (size_of chip) 0x00 (card_of chip) (sound_sheet chip).lines position h))
+  writable_beyond h = ap (λ (r : Row). r.writable) (sym (row_beyond (size_of chip) 0x00 (card_of chip) (sound_sheet chip).lines position h))
 
   pub power_at : position < size_of chip → get_or (power_on chip) position 0 ≡ (row_of chip position).power
   unfolding row_of power_on_in
   power_at h = column_at (size_of chip) (λ p. (row_in (card_of chip) p).power) position h
 
-  pub masks_at : (clears : ℕ) → clears ≡ (row_of chip position).clears → position < size_of chip
-      → masks_in (row (get_or (column (size_of chip) (λ p. (row_of chip p).writable)) position 0) clears 0) ≡ masks_in (row_of chip position)
+  pub writable_at : position < size_of chip → get_or (column (size_of chip) (λ p. (row_in (card_of chip) p).writable)) position 0 ≡ (row_of chip position).writable
   unfolding row_of
-  masks_at clears e h = masks_of_column (size_of chip) (card_of chip) position clears h e
+  writable_at h = column_at (size_of chip) (λ p. (row_in (card_of chip) p).writable) position h
 
   -- where no line has a bit that clears on one
   pub clearless : So (every (unclearing []) (card_of chip)) → 0x00 ≡ (row_of chip position).clears

@@ -2,12 +2,12 @@
 -- Assumes nothing.
 use Prim.Native.Nat.{ℕ, ◌≤◌, ◌<◌}
 use native.Mathlib.Omega.{arith}
-use mathlib.Core.Path.{◌≡◌, refl, sym, ap, ◌∙◌}
+use mathlib.Core.Path.{◌≡◌, refl, ap, ◌∙◌}
 use mathlib.Core.Bool.{Bool, true, false, So, cond}
 use mathlib.Core.List.{List, [], ◌∷◌, ◌++◌}
 use borrow.Author.Tests.{leb-true, ltb-true, ne_eqb}
 use lib.Dec.{eqb, leb, ltb}
-use Rattle.pages.specs.Rows.{every, Line, Row, row, row_in}
+use Rattle.pages.specs.Rows.{every, Line, row, row_in}
 use Rattle.pages.proofs.Every.{both}
 
 -- no row of a position stands in lines that all end before it ..

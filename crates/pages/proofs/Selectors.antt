@@ -1,6 +1,6 @@
 -- What a page's selector is: the bits that say the bank, and where there are some the bank select register with its masks.
 -- Assumes nothing.
-use Prim.Native.Nat.{ℕ, ◌+◌, ◌≤◌, ◌/◌}
+use Prim.Native.Nat.{ℕ, ◌≤◌, ◌/◌}
 use native.Mathlib.Omega.{arith}
 use mathlib.Core.Path.{◌≡◌, refl, sym, ap}
 use mathlib.Core.Bool.{Bool, true, false, cond}
@@ -8,7 +8,6 @@ use mathlib.Core.List.{List, [], ◌∷◌}
 use borrow.Author.Tests.{eqb-true}
 use lib.Dec.{eqb}
 use lib.ListN.{length}
-use Rattle.pages.specs.declared.Register.{Register}
 use Rattle.pages.specs.declared.Selector.{Selector}
 use Rattle.pages.specs.Banks.{Banks, ready, selects_from}
 use Rattle.pages.specs.Rows.{register_at, no_register}

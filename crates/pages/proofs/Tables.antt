@@ -1,6 +1,7 @@
 -- The registers of a fan table are distinct positions that the bus reaches, and a speed's takes the full duty: of any page that passes its test,
 -- carried to each register; and what the answers of `table_of` and `ground_of` tell of them.
 -- Assumes nothing.
+use Rattle.std.specs.Prelude.{Some, None}
 use Prim.Native.Nat.{ℕ, zero, suc, ◌+◌, ◌-◌, ◌*◌, ◌/◌, ◌^◌, ◌≤◌, ◌<◌}
 use native.Mathlib.Nat.{mod-eq_of_lt}
 use native.Mathlib.Omega.{arith}
@@ -16,7 +17,6 @@ use Rattle.pages.specs.declared.Masks.{Masks}
 use Rattle.pages.specs.declared.Register.{Register}
 use Rattle.pages.specs.declared.Shape.{Shape}
 use Rattle.pages.specs.declared.Shape.TheVariants.{Slope, Steps}
-use Rattle.pages.specs.declared.Fan.TheVariants.{Laid, Nothing}
 use Rattle.pages.specs.Banks.{no_bank, selects_from}
 use Rattle.pages.specs.Rows.{every, Line, Table, positions, row_in, with_masks, register_at, no_register, from, spread_all, stands_at}
 use Rattle.pages.specs.Sheets.{longest, most_writes, Sheet, missing, room, has_table_in, table_in, whole_in, loaded, layout, laid_in, register_in, stretch_of, ground_in}
@@ -279,13 +279,13 @@ module _ (chip : Chip) (number : ℕ) (has : So (has_table chip number)) where
 
 -- what the first table's layout says of every number that the chip has
 pub laid_first : (chip : Chip) (number : ℕ) → 1 ≤ number → number ≤ length (tables_of chip)
-    → Laid (layout_of chip 1) ≡ laid_in (sheet_of chip) number
+    → Some (layout_of chip 1) ≡ laid_in (sheet_of chip) number
 laid_first chip number h l =
     let has : So (has_table chip number) = rw (le-leb 1 number h, le-leb number (length (tables_of chip)) l) in
-    ap Laid (sym (table_laid chip number has))
-    ∙ ap (λ (b : Bool). cond b (Laid (layout_of chip number)) Nothing) (sym has)
+    ap Some (sym (table_laid chip number has))
+    ∙ ap (λ (b : Bool). cond b (Some (layout_of chip number)) None) (sym has)
 
 -- and what no table says
-pub none_laid : (chip : Chip) (number : ℕ) → (1 ≤ number → number ≤ length (tables_of chip) → ⊥) → Nothing ≡ laid_in (sheet_of chip) number
+pub none_laid : (chip : Chip) (number : ℕ) → (1 ≤ number → number ≤ length (tables_of chip) → ⊥) → None ≡ laid_in (sheet_of chip) number
 none_laid chip number h =
-    ap (λ (has : Bool). cond has (Laid (layout_of chip number)) Nothing) (sym (no_number number (length (tables_of chip)) h))
+    ap (λ (has : Bool). cond has (Some (layout_of chip number)) None) (sym (no_number number (length (tables_of chip)) h))

@@ -1,12 +1,12 @@
 -- No second answer of a look-up meets its contract.
 -- Assumes nothing.
+use Rattle.std.specs.Prelude.{Option, Result}
+use Rattle.refusal.specs.declared.Refusal.{Refusal}
 use Prim.Native.Nat.{ℕ}
 use mathlib.Core.Bool.{Bool}
 use mathlib.Core.Path.{◌≡◌, sym, ◌∙◌}
 use Rattle.pages.specs.declared.Chip.{Chip}
 use Rattle.pages.specs.declared.Effects.{Effects}
-use Rattle.pages.specs.declared.Named.{Named}
-use Rattle.pages.specs.declared.Fan.{Fan}
 use Rattle.pages.specs.declared.Layout.{Layout}
 use Rattle.pages.specs.declared.Masks.{Masks}
 use Rattle.pages.specs.declared.Ground.{Ground}
@@ -16,7 +16,7 @@ use Rattle.pages.specs.declared.Selector.{Selector}
 use Rattle.pages.specs.declared.Sizes.{Sizes}
 use Rattle.pages.specs.Promises.{GoesWith, Names, Finds, Acts, Reports, PowersOn, TellsSizes, Requires, Lays, LaysOut, Stands, Selects, Positions, StandsInOneRow, StandsAt}
 
-pub names_unique : {number : ℕ} {r s : Named} → Names number r → Names number s → r ≡ s
+pub names_unique : {number : ℕ} {r s : Result Chip Refusal} → Names number r → Names number s → r ≡ s
 names_unique p q = p.answer ∙ sym q.answer
 
 pub finds_unique : {chip : Chip} {position : ℕ} {r s : Masks} → Finds chip position r → Finds chip position s → r ≡ s
@@ -37,7 +37,7 @@ measures_unique p q = p.answer ∙ sym q.answer
 pub requires_unique : {chip : Chip} {k : ℕ} {r s : Required} → Requires chip k r → Requires chip k s → r ≡ s
 requires_unique p q = p.answer ∙ sym q.answer
 
-pub lays_unique : {chip : Chip} {number : ℕ} {r s : Fan} → Lays chip number r → Lays chip number s → r ≡ s
+pub lays_unique : {chip : Chip} {number : ℕ} {r s : Option Layout} → Lays chip number r → Lays chip number s → r ≡ s
 lays_unique p q = p.answer ∙ sym q.answer
 
 pub lays_out_unique : {chip : Chip} {number : ℕ} {r s : Layout} → LaysOut chip number r → LaysOut chip number s → r ≡ s

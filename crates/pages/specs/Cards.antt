@@ -1,15 +1,14 @@
 -- "The three parts and who decides": the chips, their numbers and their cards.
 -- Assumes nothing.
-use Rattle.std.specs.Prelude.{ℕ, Bool, true, false, cond, not, List, [], ◌∷◌, eqb, length, get_or}
+use Rattle.std.specs.Prelude.{ℕ, Bool, true, false, cond, not, List, [], ◌∷◌, eqb, length, get_or, Option, Some, None, Result, Ok, Err}
 use Rattle.std.specs.Int.Bits.{bit_and}
+use Rattle.refusal.specs.declared.Refusal.{Refusal}
+use Rattle.refusal.specs.declared.Refusal.TheVariants.{NoSuchChip}
+use Rattle.refusal.specs.Refusals.{number_of}
 use Rattle.pages.specs.declared.Chip.{Chip}
 use Rattle.pages.specs.declared.Chip.TheVariants.{Nct7802y, F75373s, Nct80, Nct7904d, W83793g}
 use Rattle.pages.specs.declared.Effects.{Effects}
-use Rattle.pages.specs.declared.Named.{Named}
-use Rattle.pages.specs.declared.Named.TheVariants.{Known, Unknown}
 use Rattle.pages.specs.declared.Shape.{Shape}
-use Rattle.pages.specs.declared.Fan.{Fan}
-use Rattle.pages.specs.declared.Fan.TheVariants.{Laid, Nothing}
 use Rattle.pages.specs.declared.Layout.{Layout}
 use Rattle.pages.specs.declared.Ground.{Ground}
 use Rattle.pages.specs.Banks.{Banks, one_bank, among}
@@ -33,25 +32,30 @@ abbrev pub chips : List Chip
 chips = Nct7802y ∷ F75373s ∷ Nct80 ∷ Nct7904d ∷ W83793g ∷ []
 
 -- what the named chip gives, or what stands in where none is named
-abbrev pub when_known : {A : Type 0} → Named → (Chip → A) → A → A
-when_known (Known chip) f none = f chip
-when_known Unknown f none = none
+abbrev pub when_known : {A : Type 0} → Option Chip → (Chip → A) → A → A
+when_known (Some chip) f none = f chip
+when_known None f none = none
 
 abbrev pub chip_number : Chip → ℕ
 chip_number chip = (sheet_of chip).number
 
 -- the chip of that number among some
-abbrev pub chip_among : List Chip → ℕ → Named
-chip_among [] number = Unknown
-chip_among (c ∷ cs) number = cond (eqb number (chip_number c)) (Known c) (chip_among cs number)
+abbrev pub chip_among : List Chip → ℕ → Option Chip
+chip_among [] number = None
+chip_among (c ∷ cs) number = cond (eqb number (chip_number c)) (Some c) (chip_among cs number)
 
-abbrev pub chip_of : ℕ → Named
+abbrev pub chip_of : ℕ → Option Chip
 chip_of number = chip_among chips number
 
--- "Where the answer is an enum, there is a definition that gives this paper's number and values for each of its cases": 0 and the chip's number, or 3
-abbrev pub tells_named : Named → ℕ × ℕ
-tells_named (Known chip) = (0, chip_number chip)
-tells_named Unknown = (3, 0)
+-- the chip that a number names, or why it names none
+abbrev pub named : ℕ → Result Chip Refusal
+named number = when_known (chip_of number) Ok (Err NoSuchChip)
+
+-- "Where the answer is an enum, there is a definition that gives this paper's number and values for each of its cases": 0 and the chip's number, or the
+-- refusal's number
+abbrev pub tells_named : Result Chip Refusal → ℕ × ℕ
+tells_named (Ok chip) = (0, chip_number chip)
+tells_named (Err r) = (number_of r, 0)
 
 -- refusal 3: "the chip number is not 1, 2 or 3", and "3 admits chip 4", "2 admits both marks, 3 chip 5"
 abbrev pub unknown : ℕ → Bool
@@ -110,9 +114,9 @@ abbrev pub no_table : ℕ → ℕ → Bool
 no_table chip number = not (when_known (chip_of chip) (λ c. has_table c number) false)
 
 -- the same of a fan table: 0 and its layout, or 4 and that of none
-abbrev pub tells_fan : Fan → ℕ × Layout
-tells_fan (Laid facts) = (0, facts)
-tells_fan Nothing = (4, layout one_bank [] missing)
+abbrev pub tells_fan : Option Layout → ℕ × Layout
+tells_fan (Some facts) = (0, facts)
+tells_fan None = (4, layout one_bank [] missing)
 
 -- how many bytes a chip's image has
 abbrev pub size_of : Chip → ℕ

@@ -1,25 +1,24 @@
 -- What a look-up promises: that of a chip's own crate at its chip, and that of `cards` at every chip.
 -- Assumes nothing.
-use Rattle.std.specs.Prelude.{ℕ, ◌≡◌, Bool}
+use Rattle.std.specs.Prelude.{ℕ, ◌≡◌, Bool, Option, Result}
+use Rattle.refusal.specs.declared.Refusal.{Refusal}
 use Rattle.pages.specs.declared.Chip.{Chip}
 use Rattle.pages.specs.declared.Effects.{Effects}
-use Rattle.pages.specs.declared.Named.{Named}
 use Rattle.pages.specs.declared.Masks.{Masks}
 use Rattle.pages.specs.declared.Ground.{Ground}
 use Rattle.pages.specs.declared.Register.{Register}
 use Rattle.pages.specs.declared.Required.{Required}
 use Rattle.pages.specs.declared.Selector.{Selector}
 use Rattle.pages.specs.declared.Sizes.{Sizes}
-use Rattle.pages.specs.declared.Fan.{Fan}
 use Rattle.pages.specs.declared.Layout.{Layout}
 use Rattle.pages.specs.Banks.{stands_in}
 use Rattle.pages.specs.Rows.{masks_in, required_in, in_one_row, stands_at}
 use Rattle.pages.specs.Sheets.{sizes_in, laid_in, goes_with, selector_in}
-use Rattle.pages.specs.Cards.{sheet_of, chip_of, banks_of, row_of, effects_of, is_status, layout_of, ground_of}
+use Rattle.pages.specs.Cards.{sheet_of, named, banks_of, row_of, effects_of, is_status, layout_of, ground_of}
 
--- what `cards::chip_of` promises
-pub record Names (number : ℕ) (named : Named) : Type 0 where
-  pub answer : named ≡ chip_of number
+-- what `Chip::try_from` promises
+pub record Names (number : ℕ) (r : Result Chip Refusal) : Type 0 where
+  pub answer : r ≡ named number
 
 -- what `cards::masks_of` and `masks` of a chip promise
 pub record Finds (chip : Chip) (position : ℕ) (masks : Masks) : Type 0 where
@@ -46,7 +45,7 @@ pub record Requires (chip : Chip) (k : ℕ) (required : Required) : Type 0 where
   pub answer : required ≡ required_in (sheet_of chip).identity k
 
 -- what `cards::table_of` and `table` of a chip promise
-pub record Lays (chip : Chip) (number : ℕ) (fan : Fan) : Type 0 where
+pub record Lays (chip : Chip) (number : ℕ) (fan : Option Layout) : Type 0 where
   pub answer : fan ≡ laid_in (sheet_of chip) number
 
 -- what `cards::layout_of` promises

@@ -1,6 +1,6 @@
 -- A chip as one page of facts, everything that sets it apart from the others; and what is read off a page.
 -- Assumes nothing.
-use Rattle.std.specs.Prelude.{ℕ, ◌+◌, ◌-◌, Bool, true, false, cond, ◌&&◌, List, [], ◌∷◌, ◌++◌, map, eqb, leb, length, get_or, take, drop}
+use Rattle.std.specs.Prelude.{ℕ, ◌+◌, ◌-◌, Bool, true, false, cond, ◌&&◌, List, [], ◌∷◌, ◌++◌, map, eqb, leb, length, get_or, take, drop, Option, Some, None}
 use Rattle.pages.specs.declared.Effects.{Effects}
 use Rattle.pages.specs.declared.Ground.{Ground}
 use Rattle.pages.specs.declared.Register.{Register}
@@ -11,8 +11,6 @@ use Rattle.pages.specs.declared.Sizes.{Sizes}
 use Rattle.pages.specs.declared.Shape.{Shape}
 use Rattle.pages.specs.declared.Shape.TheVariants.{Slope, Steps}
 use Rattle.pages.specs.declared.Layout.{Layout}
-use Rattle.pages.specs.declared.Fan.{Fan}
-use Rattle.pages.specs.declared.Fan.TheVariants.{Laid, Nothing}
 use Rattle.pages.specs.Banks.{Banks, no_bank, selects_from}
 use Rattle.pages.specs.Rows.{every, Line, Table, Reading, positions, row_in, register_at, no_register, stretch, column}
 
@@ -103,9 +101,9 @@ layout banks card table =
 abbrev pub goes_with : Layout → ℕ → Bool
 goes_with layout points = cond layout.counted (eqb points layout.speeds) true
 
-abbrev pub laid_in : Sheet → ℕ → Fan
+abbrev pub laid_in : Sheet → ℕ → Option Layout
 laid_in sheet number =
-    cond (has_table_in sheet.tables number) (Laid (layout sheet.banks sheet.card (table_in sheet.tables number))) Nothing
+    cond (has_table_in sheet.tables number) (Some (layout sheet.banks sheet.card (table_in sheet.tables number))) None
 
 -- the bank select register and its bits that say the bank; without a bit there is one bank only, and no register that selects
 abbrev pub selector_in : Sheet → Selector

@@ -3,9 +3,11 @@
 
 ghost use Rattle.std.specs.Prelude.{◌≡◌, get_or};
 ghost use Rattle.pages.specs.Rows.{spread, no_register};
-ghost use Rattle.pages.specs.Promises.{GoesWith, StandsInOneRow, StandsAt};
+ghost use Rattle.pages.specs.Promises.{Names, GoesWith, StandsInOneRow, StandsAt};
 
-#[derive(Clone, Copy)]
+use refusal::Refusal;
+
+#[derive(Clone, Copy, Debug, PartialEq, Eq)]
 pub enum Chip {
     Nct7802y,
     F75373s,
@@ -14,11 +16,23 @@ pub enum Chip {
     W83793g,
 }
 
-// What a chip number names.
-#[derive(Clone, Copy)]
-pub enum Named {
-    Known(Chip),
-    Unknown,
+// The chip of a chip number; every other number is refused.
+impl TryFrom<u8> for Chip {
+    type Error = Refusal;
+
+    ghost try_from_gives = { Names };
+
+    #[tactic(auto, unfolding(crate::specs::Cards::sheet_of))]
+    fn try_from(number: u8) -> Result<Chip, Refusal> {
+        match number {
+            1 => Ok(Chip::Nct7802y),
+            2 => Ok(Chip::F75373s),
+            3 => Ok(Chip::Nct80),
+            4 => Ok(Chip::Nct7904d),
+            5 => Ok(Chip::W83793g),
+            _ => Err(Refusal::NoSuchChip),
+        }
+    }
 }
 
 // What a write does in a register: the bits that it replaces, and those that it clears where it has a 1.
@@ -89,6 +103,7 @@ pub enum Shape {
     Steps,
 }
 
+// That a table has at most 17 registers is no invariant here, since the definition `layout` lays out any table: three functions require it.
 // How many registers of each kind a fan table has, what its curve is, whether every register of it takes every bit, so that each byte fits, how
 // many selects of a bank its script has, whether critical leads in its record, and whether its record carries the number of its points.
 #[derive(Clone, Copy)]
@@ -100,13 +115,6 @@ pub struct Layout {
     pub selects: usize,
     pub leading: bool,
     pub counted: bool,
-}
-
-// The fan table of a number, if there is one.
-#[derive(Clone, Copy)]
-pub enum Fan {
-    Laid(Layout),
-    Nothing,
 }
 
 // Behind the end of a card.

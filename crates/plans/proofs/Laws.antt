@@ -1,5 +1,6 @@
 -- What acceptance gives: the chip, its table, values in order that the table holds, and a curve that never asks less as the temperature rises.
 -- Assumes nothing.
+use Rattle.std.specs.Prelude.{Result, Option, Ok, Err, Some, None}
 use Prim.Native.Nat.{ℕ, ◌≤◌, ◌<◌}
 use mathlib.Core.Path.{◌≡◌, refl, sym, ap, ◌∙◌}
 use mathlib.Core.Bool.{Bool, true, false, So, cond, not}
@@ -13,12 +14,8 @@ use Rattle.refusal.specs.Refusals.{number_of}
 use Rattle.refusal.specs.Checks.{Check, first}
 use Rattle.refusal.proofs.Passed.{passed}
 use Rattle.pages.specs.declared.Chip.{Chip}
-use Rattle.pages.specs.declared.Named.{Named}
-use Rattle.pages.specs.declared.Named.TheVariants as named
 use Rattle.pages.specs.declared.Shape.TheVariants.{Slope, Steps}
 use Rattle.pages.specs.Cards.{chip_of, when_known, unknown, has_table, no_table}
-use Rattle.images.specs.declared.Admitted.{Admitted}
-use Rattle.images.specs.declared.Admitted.TheVariants.{Known, Refused}
 use Rattle.curves.specs.declared.Plan.{Plan}
 use Rattle.curves.specs.Curves.{degree}
 use Rattle.curves.specs.Orders.{Each, never_falls, fulls, MoreDuty}
@@ -35,7 +32,7 @@ pub record Accepted (chip : Chip) (plan : Plan) : Type 0 where
   pub temperatures : temperatures_pass chip plan ≡ true
   pub speeds : speeds_pass chip plan ≡ true
 
-pub passed_plan : (chip : Chip) (plan : Plan) → chip_of plan.chip ≡ named.Known chip → first (plan_checks plan) ≡ 0 → Accepted chip plan
+pub passed_plan : (chip : Chip) (plan : Plan) → chip_of plan.chip ≡ Some chip → first (plan_checks plan) ≡ 0 → Accepted chip plan
 passed_plan chip plan e h =
     let behind_six : List Check = (not (speeds_pass chip plan), 7) ∷ [] in
     let behind_form : List Check = (not (temperatures_pass chip plan), 6) ∷ behind_six in
@@ -60,18 +57,18 @@ accepted_known plan h =
     (lit< tt) h).0
 
 -- what an answer of `accept` tells, in the paper's numbers
-abbrev refusal_in : Admitted → ℕ
-refusal_in (Known chip) = 0
-refusal_in (Refused r) = number_of r
+abbrev refusal_in : Result Chip Refusal → ℕ
+refusal_in (Ok chip) = 0
+refusal_in (Err r) = number_of r
 
 -- the answer by how the tests of a chip's plan end
-abbrev judged : Chip → Bool → Bool → Bool → Bool → Admitted
+abbrev judged : Chip → Bool → Bool → Bool → Bool → Result Chip Refusal
 judged c has points temperatures speeds =
     cond has
     (cond points
-    (cond temperatures (cond speeds (Known c) (Refused Refusal.SpeedsOutOfOrder)) (Refused Refusal.TemperaturesOutOfOrder))
-    (Refused Refusal.FormNotOfChip))
-    (Refused Refusal.NoSuchTable)
+    (cond temperatures (cond speeds (Ok c) (Err Refusal.SpeedsOutOfOrder)) (Err Refusal.TemperaturesOutOfOrder))
+    (Err Refusal.FormNotOfChip))
+    (Err Refusal.NoSuchTable)
 
 -- it is the first check that the plan fails
 accepted_checks : (plan : Plan) → refusal_in (accepted plan) ≡ first (plan_checks plan)
@@ -86,31 +83,31 @@ accepted_checks plan = by_name (chip_of plan.chip) refl
     by_tests c true false temperatures speeds = refl
     by_tests c false points temperatures speeds = refl
 
-    by_name : (n : Named) → chip_of plan.chip ≡ n → refusal_in (accepted plan) ≡ first (plan_checks plan)
-    by_name (named.Known c) e = rw e (by_tests c (has_table c plan.table) (points_pass c plan) (temperatures_pass c plan) (speeds_pass c plan))
-    by_name named.Unknown e = rw e
+    by_name : (n : Option Chip) → chip_of plan.chip ≡ n → refusal_in (accepted plan) ≡ first (plan_checks plan)
+    by_name (Some c) e = rw e (by_tests c (has_table c plan.table) (points_pass c plan) (temperatures_pass c plan) (speeds_pass c plan))
+    by_name None e = rw e
 
-pub refused_plan : {plan : Plan} {r : Admitted} (q : Refusal) → Accepts plan r → r ≡ Refused q → number_of q ≡ first (plan_checks plan)
+pub refused_plan : {plan : Plan} {r : Result Chip Refusal} (q : Refusal) → Accepts plan r → r ≡ Err q → number_of q ≡ first (plan_checks plan)
 refused_plan {plan} q p e = ap refusal_in (sym e ∙ p.answer) ∙ accepted_checks plan
 
-pub accepted_plan : {plan : Plan} {r : Admitted} (chip : Chip) → Accepts plan r → r ≡ Known chip → first (plan_checks plan) ≡ 0
+pub accepted_plan : {plan : Plan} {r : Result Chip Refusal} (chip : Chip) → Accepts plan r → r ≡ Ok chip → first (plan_checks plan) ≡ 0
 accepted_plan {plan} chip p e = sym (ap refusal_in (sym e ∙ p.answer) ∙ accepted_checks plan)
 
 -- and a chip that is told is the plan's
-pub accepted_chip : {plan : Plan} {r : Admitted} (chip : Chip) → Accepts plan r → r ≡ Known chip → chip_of plan.chip ≡ named.Known chip
+pub accepted_chip : {plan : Plan} {r : Result Chip Refusal} (chip : Chip) → Accepts plan r → r ≡ Ok chip → chip_of plan.chip ≡ Some chip
 accepted_chip {plan} {r} chip p e = by_name (chip_of plan.chip) refl (sym p.answer ∙ e)
   where
-    by_tests : (c : Chip) (has points temperatures speeds : Bool) → judged c has points temperatures speeds ≡ Known chip → c ≡ chip
+    by_tests : (c : Chip) (has points temperatures speeds : Bool) → judged c has points temperatures speeds ≡ Ok chip → c ≡ chip
     by_tests c true true true true e = cc
     by_tests c true true true false e = let z : ◌≡◌ {A = ℕ} 0 1 = cc in absurd (omega arith)
     by_tests c true true false speeds e = let z : ◌≡◌ {A = ℕ} 0 1 = cc in absurd (omega arith)
     by_tests c true false temperatures speeds e = let z : ◌≡◌ {A = ℕ} 0 1 = cc in absurd (omega arith)
     by_tests c false points temperatures speeds e = let z : ◌≡◌ {A = ℕ} 0 1 = cc in absurd (omega arith)
 
-    by_name : (n : Named) → chip_of plan.chip ≡ n → when_known n (λ c. accepted_of c plan) (Refused Refusal.NoSuchChip) ≡ Known chip
-        → chip_of plan.chip ≡ named.Known chip
-    by_name (named.Known c) q e = q ∙ ap named.Known (by_tests c (has_table c plan.table) (points_pass c plan) (temperatures_pass c plan) (speeds_pass c plan) e)
-    by_name named.Unknown q e = let z : ◌≡◌ {A = ℕ} 0 1 = cc in absurd (omega arith)
+    by_name : (n : Option Chip) → chip_of plan.chip ≡ n → when_known n (λ c. accepted_of c plan) (Err Refusal.NoSuchChip) ≡ Ok chip
+        → chip_of plan.chip ≡ Some chip
+    by_name (Some c) q e = q ∙ ap Some (by_tests c (has_table c plan.table) (points_pass c plan) (temperatures_pass c plan) (speeds_pass c plan) e)
+    by_name None q e = let z : ◌≡◌ {A = ℕ} 0 1 = cc in absurd (omega arith)
 
 -- a slope whose duties never fall, none above full: the duty asked never falls as T rises
 pub duty_never_falls : (points full : ℕ) (plan : Plan) (t u : ℕ) → So (never_falls (take points plan.slope.duties))

@@ -1,3 +1,5 @@
+pub mod Looked
+pub mod Made
 pub mod Registers
 pub mod Fits
 pub mod Whole

@@ -1,12 +1,11 @@
 -- "Plans and what they ask": the curve that an image holds, and which plans a chip accepts.
 -- Assumes nothing.
-use Rattle.std.specs.Prelude.{ℕ, Bool, true, false, cond, ◌&&◌, List, [], ◌∷◌, map}
+use Rattle.std.specs.Prelude.{ℕ, Bool, true, false, cond, ◌&&◌, List, [], ◌∷◌, map, Result, Ok, Err}
+use Rattle.refusal.specs.declared.Refusal.{Refusal}
 use Rattle.refusal.specs.declared.Refusal.TheVariants.{NoSuchChip, NoSuchTable, TemperaturesOutOfOrder, SpeedsOutOfOrder, FormNotOfChip}
 use Rattle.pages.specs.declared.Chip.{Chip}
 use Rattle.pages.specs.Sheets.{goes_with}
 use Rattle.pages.specs.Cards.{chip_of, when_known, has_table, table_of, shape_of, layout_of, worth, fits_at}
-use Rattle.images.specs.declared.Admitted.{Admitted}
-use Rattle.images.specs.declared.Admitted.TheVariants.{Known, Refused}
 use Rattle.curves.specs.declared.Plan.{Plan}
 use Rattle.curves.specs.Planned.{Curve, planned, temperatures_in_order, speeds_in_order}
 
@@ -44,16 +43,16 @@ speeds_pass chip plan =
     speeds_in_order (shape_of chip plan.table) plan && holdable chip (table_of chip plan.table).speeds (planned_for chip plan).speeds
 
 -- a plan of a chip: the chip, or why it is refused ..
-abbrev pub accepted_of : Chip → Plan → Admitted
+abbrev pub accepted_of : Chip → Plan → Result Chip Refusal
 accepted_of chip plan =
     cond (has_table chip plan.table)
     (cond (points_pass chip plan)
     (cond (temperatures_pass chip plan)
-    (cond (speeds_pass chip plan) (Known chip) (Refused SpeedsOutOfOrder))
-    (Refused TemperaturesOutOfOrder))
-    (Refused FormNotOfChip))
-    (Refused NoSuchTable)
+    (cond (speeds_pass chip plan) (Ok chip) (Err SpeedsOutOfOrder))
+    (Err TemperaturesOutOfOrder))
+    (Err FormNotOfChip))
+    (Err NoSuchTable)
 
 -- .. and of any chip number
-abbrev pub accepted : Plan → Admitted
-accepted plan = when_known (chip_of plan.chip) (λ c. accepted_of c plan) (Refused NoSuchChip)
+abbrev pub accepted : Plan → Result Chip Refusal
+accepted plan = when_known (chip_of plan.chip) (λ c. accepted_of c plan) (Err NoSuchChip)

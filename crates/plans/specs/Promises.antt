@@ -1,16 +1,13 @@
 -- What the calls of `plans` check, in the paper's order, and promise.
 -- Assumes nothing.
-use Rattle.std.specs.Prelude.{ℕ, ◌≡◌, Bool, true, not, List, [], ◌∷◌, ◌++◌}
-use Rattle.refusal.specs.declared.Outcome.{Outcome}
-use Rattle.refusal.specs.Refusals.{number_of}
-use Rattle.refusal.specs.Answers.{tells}
+use Rattle.std.specs.Prelude.{ℕ, ◌≡◌, Bool, true, not, List, [], ◌∷◌, ◌++◌, Result, ⊤}
+use Rattle.pages.specs.declared.Chip.{Chip}
+use Rattle.refusal.specs.declared.Refusal.{Refusal}
+use Rattle.refusal.specs.Answers.{tells, tells_or}
 use Rattle.refusal.specs.Checks.{Check, first, told}
 use Rattle.pages.specs.Cards.{chip_of, when_known, unknown, no_table, not_an_image, shape_of}
-use Rattle.images.specs.declared.Admitted.{Admitted}
 use Rattle.curves.specs.declared.Plan.{Plan}
 use Rattle.curves.specs.Planned.{asks}
-use Rattle.plans.specs.declared.Asked.{Asked}
-use Rattle.plans.specs.declared.Asked.TheVariants as asked
 use Rattle.plans.specs.Plans.{held, planned_for, points_pass, temperatures_pass, speeds_pass, accepted}
 
 -- refusal 16: "A chip 5 plan handed in that carries a point count is refused 16 for it too"
@@ -37,24 +34,23 @@ abbrev pub plan_checks : Plan → List Check
 plan_checks plan = ask_plan_checks plan ++ order_checks plan
 
 -- the paper's number and the speed of an answer
-abbrev pub tells_asked : Asked → ℕ × ℕ
-tells_asked (asked.Speed s) = (0, s)
-tells_asked (asked.Refused r) = (number_of r, 0)
+abbrev pub tells_asked : Result ℕ Refusal → ℕ × ℕ
+tells_asked r = tells_or 0 r
 
 -- what `plans::accept` promises: the plan's chip, or the first check that it fails (`accepted_checks`)
-pub record Accepts (plan : Plan) (r : Admitted) : Type 0 where
+pub record Accepts (plan : Plan) (r : Result Chip Refusal) : Type 0 where
   pub answer : r ≡ accepted plan
 
 -- what `plans::judge` promises
-pub record Judges (plan : Plan) (r : Outcome) : Type 0 where
+pub record Judges (plan : Plan) (r : Result ⊤ Refusal) : Type 0 where
   pub answer : tells r ≡ first (plan_checks plan)
 
 -- what a call that asks a speed of a plan promises, by its own list of checks ..
-pub record AsksPlanBy (checks : List Check) (plan : Plan) (t : ℕ) (r : Asked) : Type 0 where
+pub record AsksPlanBy (checks : List Check) (plan : Plan) (t : ℕ) (r : Result ℕ Refusal) : Type 0 where
   pub answer : tells_asked r ≡ told checks (when_known (chip_of plan.chip) (λ c. asks (shape_of c plan.table) (planned_for c plan) t) 0)
 
 -- .. and so what `plans::asked_of_plan` promises
-abbrev pub AsksPlan : Plan → ℕ → Asked → Type 0
+abbrev pub AsksPlan : Plan → ℕ → Result ℕ Refusal → Type 0
 AsksPlan plan t r = AsksPlanBy (ask_plan_checks plan) plan t r
 
 -- "Asking a speed of an image checks 3, 4 and 8"
@@ -62,7 +58,7 @@ abbrev pub ask_image_checks : ℕ → ℕ → List ℕ → List Check
 ask_image_checks chip table image = (unknown chip, 3) ∷ (no_table chip table, 4) ∷ (not_an_image chip image, 8) ∷ []
 
 -- what `plans::asked_of_image` promises. The image is only read, so it holds what it held.
-pub record AsksImage (chip table : ℕ) (image : List ℕ) (t : ℕ) (r : Asked) : Type 0 where
+pub record AsksImage (chip table : ℕ) (image : List ℕ) (t : ℕ) (r : Result ℕ Refusal) : Type 0 where
   pub answer :
       tells_asked r
       ≡ told (ask_image_checks chip table image)

@@ -12,24 +12,14 @@ use pages::{Chip, Ground, Layout, Register};
 fn worth(image: &[u8], register: Register) -> u8
     ensures { result ≡ worth_at register image.now }
 {
-    let position = register.position;
-    let masks = register.masks;
-    if position < image.len() {
-        image[position] & masks.writable
-    } else {
-        0
-    }
+    image.get(register.position).copied().unwrap_or(0) & register.masks.writable
 }
 
 // Register by register, in the order of the table.
 pub(crate) fn held(stretches: Ground, image: &[u8]) -> [u8; LONGEST]
     ensures { result ≡ column longest (λ k. worth_at (stands_at stretches k) image.now) }
 {
-    let mut bytes = [0u8; LONGEST];
-    for k in 0..LONGEST {
-        bytes[k] = worth(image, pages::register_at(stretches, k));
-    }
-    bytes
+    std::array::from_fn(|k| worth(image, pages::register_at(stretches, k)))
 }
 
 // Whether the registers of a table, from one place up to another, can hold a body's bytes.
@@ -37,15 +27,10 @@ fn each_fits(stretches: Ground, body: [u8; LONGEST], from: usize, to: usize) -> 
     requires { to ≤ longest }
     ensures { result ≡ fit_from (stands_at stretches) body from (to - from) }
 {
-    for k in from..to {
-        let register = pages::register_at(stretches, k);
-        let masks = register.masks;
-        let byte = body[k];
-        if byte & masks.writable != byte {
-            return false;
-        }
-    }
-    true
+    (from..to).all(|k| {
+        let writable = pages::register_at(stretches, k).masks.writable;
+        body[k] & writable == body[k]
+    })
 }
 
 // Whether a table's registers can hold a plan's settings, and its speeds.
@@ -66,8 +51,7 @@ pub(crate) fn fit(chip: Chip, plan: Plan, layout: Layout) -> Fitting
             speeds: true,
         };
     }
-    let shape = layout.shape;
-    let body = bodies::body_of(shape, false, plan);
+    let body = bodies::body_of(layout.shape, false, plan);
     let stretches = cards::ground_of(chip, plan.table);
     let settings = layout.settings;
     Fitting {

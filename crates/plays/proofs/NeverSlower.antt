@@ -1,6 +1,8 @@
 -- Demand 3: whatever plays leave in an image is never slower than the slower of the old curve and the plan, is the plan after the last write, and
 -- differs from the old image in the fan table alone. The theorem of Stops told of the answers that callers get, and carried from play to play.
 -- Assumes nothing.
+use Rattle.std.specs.Prelude.{Result, Option, Ok, Some}
+use Rattle.refusal.specs.declared.Refusal.{Refusal}
 use Prim.Native.Nat.{ℕ}
 use mathlib.Core.Path.{◌≡◌, refl, sym, ap, subst, ◌∙◌}
 use mathlib.Core.Bool.{So, cond}
@@ -9,17 +11,11 @@ use borrow.Author.Tests.{eq-eqb}
 use lib.Dec.{eqb}
 use lib.ListN.{length, take}
 use Rattle.refusal.specs.Checks.{first}
-use Rattle.refusal.specs.declared.Amount.{Amount}
-use Rattle.refusal.specs.declared.Amount.TheVariants as amount
 use Rattle.pages.specs.declared.Chip.{Chip}
-use Rattle.pages.specs.declared.Named.{Named}
-use Rattle.pages.specs.declared.Named.TheVariants.{Known}
 use Rattle.pages.specs.Cards.{size_of, chip_of, when_known, has_table, shape_of}
 use Rattle.identities.specs.Promises.{identity_checks}
 use Rattle.curves.specs.declared.Plan.{Plan}
 use Rattle.curves.specs.Planned.{Curve, asks}
-use Rattle.plans.specs.declared.Asked.{Asked}
-use Rattle.plans.specs.declared.Asked.TheVariants.{Speed}
 use Rattle.plans.specs.Plans.{held, planned_for}
 use Rattle.plans.specs.Promises.{AsksImage, AsksPlan}
 use Rattle.plans.proofs.Laws.{Accepted, passed_plan}
@@ -34,28 +30,28 @@ use Rattle.plays.proofs.NeverRefused.{play_accepted}
 use Rattle.plays.proofs.Stops.{stops_length, stops_more, played_keeps_identity, asked_at_stop, held_at_last, kept_outside}
 
 -- what is asked of an image, and of a plan, is a speed
-image_speed : {number table t : ℕ} {image : List ℕ} {r : Asked} (chip : Chip) → chip_of number ≡ Known chip → So (has_table chip table) → length image ≡ size_of chip
-    → AsksImage number table image t r → r ≡ Speed (asks (shape_of chip table) (held chip table image) t)
+image_speed : {number table t : ℕ} {image : List ℕ} {r : Result ℕ Refusal} (chip : Chip) → chip_of number ≡ Some chip → So (has_table chip table) → length image ≡ size_of chip
+    → AsksImage number table image t r → r ≡ Ok (asks (shape_of chip table) (held chip table image) t)
 image_speed {number} {table} {t} {image} {r} chip e has long p =
-    tells_asked_injective r (Speed (asks (shape_of chip table) (held chip table image) t))
+    tells_asked_injective r (Ok (asks (shape_of chip table) (held chip table image) t))
     (p.answer ∙ rw (e, has, eq-eqb (length image) (size_of chip) long))
 
-plan_speed : {plan : Plan} {t : ℕ} {r : Asked} (chip : Chip) → chip_of plan.chip ≡ Known chip → Accepted chip plan
-    → AsksPlan plan t r → r ≡ Speed (asks (shape_of chip plan.table) (planned_for chip plan) t)
+plan_speed : {plan : Plan} {t : ℕ} {r : Result ℕ Refusal} (chip : Chip) → chip_of plan.chip ≡ Some chip → Accepted chip plan
+    → AsksPlan plan t r → r ≡ Ok (asks (shape_of chip plan.table) (planned_for chip plan) t)
 plan_speed {plan} {t} {r} chip e accepted p =
-    tells_asked_injective r (Speed (asks (shape_of chip plan.table) (planned_for chip plan) t)) (p.answer ∙ rw (e, accepted.has, accepted.points))
+    tells_asked_injective r (Ok (asks (shape_of chip plan.table) (planned_for chip plan) t)) (p.answer ∙ rw (e, accepted.has, accepted.points))
 
 -- the image that a play leaves
-left_by_play : {plan : Plan} {old new : List ℕ} {count n : ℕ} (chip : Chip) → chip_of plan.chip ≡ Known chip → Plays plan old count (amount.Of n) new
+left_by_play : {plan : Plan} {old new : List ℕ} {count n : ℕ} (chip : Chip) → chip_of plan.chip ≡ Some chip → Plays plan old count (Ok n) new
     → new ≡ played chip (take count (script_of chip plan)) old
 left_by_play {plan} {old} {new} {count} chip e p =
     let none : 0 ≡ first (play_checks plan old) = ap (λ (t : ℕ × ℕ). t.0) p.answer in
     p.bytes
     ∙ ap (λ (x : ℕ). cond (eqb x 0) (when_known (chip_of plan.chip) (λ c. played c (take count (script_of c plan)) old) old) old) (sym none)
-    ∙ ap (λ (named : Named). when_known named (λ c. played c (take count (script_of c plan)) old) old) e
+    ∙ ap (λ (named : Option Chip). when_known named (λ c. played c (take count (script_of c plan)) old) old) e
 
 -- Demand 3 over any list of cuts: whatever plays of an accepted plan leave, one after the other, in an image of its chip.
-pub demand_3 : (chip : Chip) (plan : Plan) → chip_of plan.chip ≡ Known chip → Accepted chip plan → (old : List ℕ) → length old ≡ size_of chip
+pub demand_3 : (chip : Chip) (plan : Plan) → chip_of plan.chip ≡ Some chip → Accepted chip plan → (old : List ℕ) → length old ≡ size_of chip
     → (cuts : List ℕ) → Demand3 chip plan old (last_of 0 cuts) (stops (played chip) (script_of chip plan) old cuts)
 demand_3 chip plan e accepted old long cuts =
     let has = accepted.has in
@@ -66,14 +62,14 @@ demand_3 chip plan e accepted old long cuts =
           (asked_at_stop chip plan accepted old long cuts t);
       at_last = λ h t s q atStop planned.
           image_speed chip e has here atStop
-          ∙ ap (λ (c : Curve). Speed (asks (shape_of chip plan.table) c t)) (held_at_last chip plan accepted old long cuts (rw e at h))
+          ∙ ap (λ (c : Curve). Ok (asks (shape_of chip plan.table) c t)) (held_at_last chip plan accepted old long cuts (rw e at h))
           ∙ sym (plan_speed chip e accepted planned);
       outside = kept_outside chip plan accepted old long cuts;
       as_long = here ∙ sym long;
     }
 
 -- an image stays confirmed through a play
-played_confirmed : (number : ℕ) (chip : Chip) (ws : List Pair) (image : List ℕ) → chip_of number ≡ Known chip
+played_confirmed : (number : ℕ) (chip : Chip) (ws : List Pair) (image : List ℕ) → chip_of number ≡ Some chip
     → first (identity_checks number (played chip ws image)) ≡ first (identity_checks number image)
 played_confirmed number chip ws image e =
     let long = played_length chip ws image in
@@ -93,14 +89,14 @@ since_first plan start =
     }
 
 -- and from play to play
-pub since_next : {plan : Plan} {old new : List ℕ} {count : ℕ} {r : Amount} → Plays plan old count r new
+pub since_next : {plan : Plan} {old new : List ℕ} {count : ℕ} {r : Result ℕ Refusal} → Plays plan old count r new
     → (start counts : List ℕ) → Since plan start counts old → Since plan start (counts ++ (count ∷ [])) new
 since_next {plan} {old} {new} {count} p start counts since =
     record {
       stop = λ chip e passed confirmed.
           let before = since.stop chip e passed confirmed in
           let ws = script_of chip plan in
-          let made = left_by_play chip e (subst (λ (s : Amount). Plays plan old count s new) (play_accepted passed before.confirmed p) p) in
+          let made = left_by_play chip e (subst (λ (s : Result ℕ Refusal). Plays plan old count s new) (play_accepted passed before.confirmed p) p) in
           let led = made ∙ ap (played chip (take count ws)) before.led ∙ sym (stops_more (played chip) ws counts start count) in
           let kept = ap (λ (l : List ℕ). first (identity_checks plan.chip l)) made ∙ played_confirmed plan.chip chip (take count ws) old e in
           record {
@@ -114,7 +110,7 @@ since_next {plan} {old} {new} {count} p start counts since =
 
 -- "Take any accepted plan and any starting image whose identity its chip confirms. Play the plan's script and stop after any number of whole
 -- writes, from none to all": the list of one play.
-pub plays_safely : {plan : Plan} {old new : List ℕ} {count : ℕ} {r : Amount} → Plays plan old count r new → Safely plan old count new
+pub plays_safely : {plan : Plan} {old new : List ℕ} {count : ℕ} {r : Result ℕ Refusal} → Plays plan old count r new → Safely plan old count new
 plays_safely {plan} {old} p =
     record {
       stop = λ chip e passed confirmed. ((since_next p old [] (since_first plan old)).stop chip e passed confirmed).safe;

@@ -1,11 +1,11 @@
 -- "Restart after a hang": what holds of an image from play to play, carried over any list of plays.
 -- Assumes nothing.
+use Rattle.std.specs.Prelude.{Some}
 use Prim.Native.Nat.{ℕ}
 use mathlib.Core.Path.{◌≡◌, sym, subst}
 use mathlib.Core.List.{List, [], ◌∷◌, ◌++◌, map, append_assoc, append-nil}
 use Rattle.refusal.specs.Checks.{first}
 use Rattle.pages.specs.declared.Chip.{Chip}
-use Rattle.pages.specs.declared.Named.TheVariants.{Known}
 use Rattle.pages.specs.Cards.{chip_of}
 use Rattle.identities.specs.Promises.{identity_checks}
 use Rattle.curves.specs.declared.Plan.{Plan}
@@ -25,7 +25,7 @@ since_last plan start (p ∷ ps) counts image since run =
     let next = since_last plan start ps (counts ++ (p.count ∷ [])) p.image (since_next run.0 start counts since) run.1 in
     subst (λ (l : List ℕ). Since plan start l (image_after p.image ps)) (append_assoc counts (p.count ∷ []) (counts_of ps)) next
 
-module _ (chip : Chip) (plan : Plan) (e : chip_of plan.chip ≡ Known chip) (passed : first (plan_checks plan) ≡ 0) (start : List ℕ)
+module _ (chip : Chip) (plan : Plan) (e : chip_of plan.chip ≡ Some chip) (passed : first (plan_checks plan) ≡ 0) (start : List ℕ)
     (confirmed : first (identity_checks plan.chip start) ≡ 0) where
   none_refused : (plays : List Play) (counts image : List ℕ) → Since plan start counts image → Replayed plan image plays → NoneRefused plan plays
   none_refused [] counts image since run = tt

@@ -1,7 +1,7 @@
 -- What `plays::play` checks, in the paper's order, and promises beside `Safely`.
 -- Assumes nothing.
-use Rattle.std.specs.Prelude.{ℕ, min, ◌≡◌, List, [], ◌∷◌, ◌++◌, length, take}
-use Rattle.refusal.specs.declared.Amount.{Amount}
+use Rattle.std.specs.Prelude.{ℕ, min, ◌≡◌, List, [], ◌∷◌, ◌++◌, length, take, Result}
+use Rattle.refusal.specs.declared.Refusal.{Refusal}
 use Rattle.refusal.specs.Answers.{tells_amount}
 use Rattle.refusal.specs.Checks.{Check, told, left}
 use Rattle.pages.specs.Cards.{chip_of, when_known, not_an_image}
@@ -20,10 +20,10 @@ play_checks plan image = plan_checks plan ++ start_checks plan image
 
 -- what a call that plays a plan's script promises, by its own list of checks: "a number above the script's length means all. It answers how many
 -- it made." ..
-pub record PlaysBy (checks : List Check) (plan : Plan) (old : List ℕ) (count : ℕ) (r : Amount) (new : List ℕ) : Type 0 where
+pub record PlaysBy (checks : List Check) (plan : Plan) (old : List ℕ) (count : ℕ) (r : Result ℕ Refusal) (new : List ℕ) : Type 0 where
   pub answer : tells_amount r ≡ told checks (min count (length (script_for plan)))
   pub bytes : new ≡ left checks (when_known (chip_of plan.chip) (λ c. played c (take count (script_of c plan)) old) old) old
 
 -- .. and so what `plays::play` promises
-abbrev pub Plays : Plan → List ℕ → ℕ → Amount → List ℕ → Type 0
+abbrev pub Plays : Plan → List ℕ → ℕ → Result ℕ Refusal → List ℕ → Type 0
 Plays plan old count r new = PlaysBy (play_checks plan old) plan old count r new

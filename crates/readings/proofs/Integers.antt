@@ -1,16 +1,13 @@
 -- A difference of two numbers and a negated number, each by its sign: a sum of integers computes only once the signs are known.
 -- Assumes nothing.
-use Prim.Native.Nat.{ℕ, zero, suc, ◌-◌, ◌<◌, ◌≤◌}
+use Prim.Native.Nat.{ℕ, zero, suc, ◌-◌, ◌<◌}
 use native.Mathlib.Omega.{arith}
 use mathlib.Core.Path.{◌≡◌, ap}
 use lib.IntN.{pos, negsuc, neg_ℤ, sub_ℕ}
-use borrow.Author.Tests.{lt-ltb, le-ltb}
+use borrow.Author.Tests.{lt-ltb}
 
 pub below : (a b : ℕ) → a < b → sub_ℕ a b ≡ negsuc (b - suc a)
 below a b h = rw (lt-ltb a b h)
-
-pub above : (a b : ℕ) → b ≤ a → sub_ℕ a b ≡ pos (a - b)
-above a b h = rw (le-ltb a b h)
 
 pub negated : (n : ℕ) → 0 < n → neg_ℤ (pos n) ≡ negsuc (n - 1)
 negated zero h = absurd (omega arith)

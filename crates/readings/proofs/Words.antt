@@ -3,16 +3,15 @@
 use Prim.Native.Nat.{ℕ, suc, ◌+◌, ◌-◌, ◌^◌, ◌<◌, ◌≤◌}
 use native.Mathlib.Omega.{arith}
 use mathlib.Core.Path.{◌≡◌, refl, sym, ap, ◌∙◌}
-use mathlib.Core.Bool.{Bool, true, false, true≢false, cond}
-use lib.Dec.{T, ltb}
-use lib.IntN.{ℤ, pos, negsuc, nat_abs, ◌+ℤ◌, ◌-ℤ◌}
-use lib.Signed.{lt_z, non_neg}
+use mathlib.Core.Bool.{Bool, true, false, cond}
+use lib.Dec.{ltb}
+use lib.IntN.{ℤ, pos, negsuc, ◌+ℤ◌, ◌-ℤ◌}
 use borrow.Author.Tests.{lt-ltb, le-ltb}
 use mir.Syntax.{w16}
 use mir.Val.{SFits, sel, to_z, of_z}
-use mir.Facts.{to_z-of_z, to_z_pos, Fits-of_z}
+use mir.Facts.{to_z-of_z, Fits-of_z}
 use Rattle.readings.specs.Readings.{as_number, as_word}
-use Rattle.readings.proofs.Integers.{below, above}
+use Rattle.readings.proofs.Integers.{below}
 
 pub low_number : (n : ℕ) → n < 2 ^ 15 → as_number n ≡ pos n
 low_number n h = rw (lt-ltb n 32768 h)
@@ -47,21 +46,3 @@ word_is (negsuc n) = refl
 
 pub number_word : (z : ℤ) → SFits w16 z → as_number (as_word z) ≡ z
 number_word z f = rw (← word_is z) (sym (number_is (of_z w16 z) (Fits-of_z f).fits) ∙ to_z-of_z f)
-
--- the top bit counts -2 ^ 15
-pub top_counts : (n : ℕ) → 2 ^ 15 ≤ n → n < 2 ^ 16 → to_z w16 (n - 2 ^ 15) +ℤ negsuc 32767 ≡ as_number n
-top_counts n l h = rw (to_z_pos w16 {n = n - 2 ^ 15} (omega arith)) (top_by 32767 65535 n refl l h)
-
--- a number below 0: its word has the top bit, and without it is 2 ^ 15 more than the number
-pub top_taken : (z : ℤ) → SFits w16 z → lt_z z (pos 0) ≡ true → z -ℤ negsuc 32767 ≡ pos (as_word z - 2 ^ 15)
-top_taken (pos n) f t = let e : ◌≡◌ {A = Bool} true false = sym t ∙ le-ltb n 0 (omega arith) in absurd (true≢false e)
-top_taken (negsuc n) f t = above 32768 (suc n) f.sfits ∙ ap pos (omega (arith, f.sfits))
-
-pub top_set : (z : ℤ) → SFits w16 z → lt_z z (pos 0) ≡ true → (2 ^ 15 ≤ as_word z) × (as_word z < 2 ^ 16)
-top_set (pos n) f t = let e : ◌≡◌ {A = Bool} true false = sym t ∙ le-ltb n 0 (omega arith) in absurd (true≢false e)
-top_set (negsuc n) f t = omega (arith, f.sfits)
-
--- any other number is its word
-pub kept : (z : ℤ) → lt_z z (pos 0) ≡ false → T (non_neg z) × (nat_abs z ≡ as_word z)
-kept (pos n) t = (tt, refl)
-kept (negsuc n) t = absurd (true≢false t)

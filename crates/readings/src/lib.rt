@@ -1,41 +1,19 @@
 // Temperatures of a width as counts of steps, and the voltages of the NCT80.
 #![tactic(auto)]
 
-ghost use Rattle.std.specs.Prelude.{◌≡◌, true};
-ghost use Rattle.readings.specs.Readings.{is_width, as_number, fits};
+ghost use Rattle.std.specs.Prelude.{◌≡◌, true, false, MatchResult};
+ghost use Rattle.readings.specs.Readings.{is_width, fits};
 ghost use Rattle.readings.specs.Promises.{Encodes, CountsSteps, GivesBytes, Measures};
 
 use refusal::Refusal;
 
-// A temperature as a signed count of steps, or why there is none.
-#[derive(Clone, Copy)]
-pub enum Steps {
-    Counted(i16),
-    Refused(Refusal),
-}
-
-// A temperature as its two bytes, the high byte first, or why there are none.
-#[derive(Clone, Copy)]
-pub enum Bytes {
-    Pair(u8, u8),
-    Refused(Refusal),
-}
-
-// Whether a temperature can have this width.
-fn is_width(width: u8) -> bool
-    ensures { result ≡ is_width width }
+// A temperature's width is 8, 9, 11 or 12.
+fn check_width(width: u8) -> Result<(), Refusal>
+    ensures { MatchResult result (λ _. is_width width ≡ true) (λ r. (r ≡ Refusal.NoSuchWidth) × (is_width width ≡ false)) }
 {
-    (width == 8) | (width == 9) | (width == 11) | (width == 12)
-}
-
-// A word taken as a 16-bit two's complement number: its top bit counts -0x8000.
-fn as_number(word: u16) -> i16
-    ensures { result ≡ as_number word }
-{
-    if word < 0x8000 {
-        word as i16
-    } else {
-        (word - 0x8000) as i16 + (-0x8000)
+    match width {
+        8 | 9 | 11 | 12 => Ok(()),
+        _ => Err(Refusal::NoSuchWidth),
     }
 }
 
@@ -43,11 +21,7 @@ fn as_number(word: u16) -> i16
 pub fn as_word(number: i16) -> u16
     ensures { Encodes number result }
 {
-    if number < 0 {
-        (number - (-0x8000)) as u16 + 0x8000
-    } else {
-        number as u16
-    }
+    number.cast_unsigned()
 }
 
 // Whether a number of steps fits a width: a signed number of that many bits.
@@ -60,28 +34,23 @@ fn does_fit(width: u8, steps: i16) -> bool
 }
 
 // The temperature of two bytes at a width.
-pub fn steps_of(width: u8, high: u8, low: u8) -> Steps
+pub fn steps_of(width: u8, high: u8, low: u8) -> Result<i16, Refusal>
     ensures { CountsSteps width high low result }
 {
-    if !is_width(width) {
-        return Steps::Refused(Refusal::NoSuchWidth);
-    }
-    let number = as_number(high as u16 * 256 + low as u16);
-    Steps::Counted(number >> (16 - width))
+    check_width(width)?;
+    Ok(i16::from_be_bytes([high, low]) >> (16 - width))
 }
 
 // The two bytes of a temperature at a width.
-pub fn bytes_of(width: u8, steps: i16) -> Bytes
+pub fn bytes_of(width: u8, steps: i16) -> Result<(u8, u8), Refusal>
     ensures { GivesBytes width steps result }
 {
-    if !is_width(width) {
-        return Bytes::Refused(Refusal::NoSuchWidth);
-    }
+    check_width(width)?;
     if !does_fit(width, steps) {
-        return Bytes::Refused(Refusal::StepsDoNotFit);
+        return Err(Refusal::StepsDoNotFit);
     }
-    let word = as_word(steps) << (16 - width);
-    Bytes::Pair((word / 256) as u8, (word % 256) as u8)
+    let [high, low] = (steps << (16 - width)).to_be_bytes();
+    Ok((high, low))
 }
 
 // The voltage of an NCT80 word, in microvolts.

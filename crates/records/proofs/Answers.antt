@@ -1,14 +1,14 @@
 -- What the reader and the writer answer is what they promise, once the tests on the way are known.
 -- Assumes nothing.
-use Prim.Native.Nat.{ℕ, ◌+◌, ◌≤◌, ◌<◌}
+use Rattle.std.specs.Prelude.{Result, Ok, Err, Some}
+use Prim.Native.Nat.{ℕ, ◌≤◌, ◌<◌}
 use native.Mathlib.Omega.{arith}
 use mathlib.Core.Path.{◌≡◌, refl, sym, ap, ap₂, ◌∙◌}
 use mathlib.Core.Bool.{Bool, true, false, cond, not, ◌&&◌}
 use mathlib.Core.List.{List, [], ◌++◌}
 use borrow.Author.Tests.{lt-ltb, le-ltb, ltb-false, not-false}
 use lib.Dec.{eqb, ltb}
-use lib.ListN.{length, get_or, take, drop}
-use lib.Seq.{paste}
+use lib.ListN.{length, get_or, drop}
 use Rattle.refusal.specs.declared.Refusal.{Refusal}
 use Rattle.refusal.specs.Refusals.{number_of}
 use Rattle.refusal.specs.Checks.{Check, first, told, left, room_checks}
@@ -24,11 +24,8 @@ use Rattle.refusal.proofs.Passed.{
   same_told,
   same_left,
 }
-use Rattle.refusal.specs.declared.Amount.{Amount}
-use Rattle.refusal.specs.declared.Amount.TheVariants as amount
 use Rattle.refusal.specs.Answers.{tells_amount}
 use Rattle.pages.specs.declared.Chip.{Chip}
-use Rattle.pages.specs.declared.Named.TheVariants.{Known}
 use Rattle.pages.specs.declared.Shape.{Shape}
 use Rattle.pages.specs.declared.Layout.{Layout}
 use Rattle.pages.specs.Sheets.{goes_with}
@@ -47,7 +44,7 @@ use Rattle.bodies.proofs.Laws.{decoded_chip, decoded_table, decoded_points, deco
 use Rattle.records.proofs.Encoding.{body_of_table, goes_own}
 
 -- what an answer with a count says of the call
-pub told_of : (checks : List Check) (value n : ℕ) (r : Amount) → r ≡ amount.Of n → tells_amount r ≡ told checks value
+pub told_of : (checks : List Check) (value n : ℕ) (r : Result ℕ Refusal) → r ≡ Ok n → tells_amount r ≡ told checks value
     → (first checks ≡ 0) × (n ≡ value)
 told_of checks value n r e t =
     let both : (0, n) ≡ told checks value = ap tells_amount (sym e) ∙ t in
@@ -57,7 +54,7 @@ told_of checks value n r e t =
 -- a body that lacks nothing
 pub record WholeBody (number table : ℕ) (bytes : List ℕ) : Type 0 where
   pub chip : Chip
-  pub named : chip_of number ≡ Known chip
+  pub named : chip_of number ≡ Some chip
   pub has : has_table chip table ≡ true
   pub count : count_out (layout_of chip table) bytes ≡ false
   pub long : body_length chip ≤ length bytes
@@ -121,7 +118,7 @@ module _ (number table : ℕ) (bytes : List ℕ) (W : WholeBody number table byt
   long_enough : ltb (length bytes) (body_length W.chip) ≡ false
   long_enough = le-ltb (length bytes) (body_length W.chip) W.long
 
-  same_chip : chip_of body_plan.chip ≡ Known W.chip
+  same_chip : chip_of body_plan.chip ≡ Some W.chip
   same_chip = ap chip_of (by_chip (layout_of W.chip table) number table bytes) ∙ W.named
 
   same_table : body_plan.table ≡ table
@@ -135,25 +132,12 @@ module _ (number table : ℕ) (bytes : List ℕ) (W : WholeBody number table byt
       ∙ goes_own l (get_or bytes 0 0)
       ∙ counted_goes l.counted l.speeds bytes (omega (arith, W.long, body_of_table W.chip table W.has)) W.count
 
-  -- no check refuses it, and what is left to check is what its plan is judged by, whatever is checked behind it
-  pub whole_passed : first (body_checks number table bytes) ≡ 0
-  whole_passed = rw (W.named, W.has, W.count, long_enough)
-
+  -- what is left to check is what its plan is judged by, whatever is checked behind it
   pub whole_asked : first (ask_plan_checks body_plan) ≡ first (body_checks number table bytes)
   whole_asked = rw (W.named, same_chip, same_table, W.has, same_count, W.count, long_enough)
 
   pub whole_judged : (more : List Check) → first (plan_checks body_plan ++ more) ≡ first (body_plan_checks number table bytes ++ more)
   whole_judged more = rw (W.named, same_chip, same_table, W.has, same_count, W.count, long_enough)
-
-  pub plan_accepted : (n : ℕ) (plan : Plan) → n ≡ body_length W.chip → plan ≡ body_plan
-      → TakesBody number table bytes (record { answer = amount.Of n; plan = plan })
-  plan_accepted n plan e d =
-      let used : n ≡ when_known (chip_of number) body_length 0 = rw W.named e in
-      let read : plan ≡ plan_of number table bytes = rw W.named d in
-      record {
-        answer = told_passed (body_checks number table bytes) n whole_passed ∙ ap (told (body_checks number table bytes)) used;
-        plan = read ∙ when_passed (plan_of number table bytes) no_plan whole_passed;
-      }
 
 pub plan_refused : (number table : ℕ) (bytes : List ℕ) {refusal : Refusal} {r : Found} → Refuses refusal r
     → number_of refusal ≡ first (body_checks number table bytes) → TakesBody number table bytes r
@@ -169,7 +153,7 @@ pub record Taken (number table : ℕ) (bytes : List ℕ) (n : ℕ) (plan : Plan)
   pub used : n ≡ body_length whole.chip
   pub plan_in_is : plan ≡ body_plan number table bytes whole
 
-pub plan_taken : (number table : ℕ) (bytes : List ℕ) (n : ℕ) (r : Found) → TakesBody number table bytes r → r.answer ≡ amount.Of n
+pub plan_taken : (number table : ℕ) (bytes : List ℕ) (n : ℕ) (r : Found) → TakesBody number table bytes r → r.answer ≡ Ok n
     → Taken number table bytes n r.plan
 plan_taken number table bytes n r P e =
     let t = told_of (body_checks number table bytes) (when_known (chip_of number) body_length 0) n r.answer e P.answer in
@@ -201,7 +185,7 @@ marked_checks bytes M = rw (le-ltb (length bytes) 4 M.long, M.mark, M.form)
 
 -- one whose body is refused is refused as its body is
 pub record_cut : (bytes : List ℕ) (refusal : Refusal) (r : Found) → Marked bytes
-    → TakesBody (chip_number_in bytes) (table_number_in bytes) (body_in bytes) r → r.answer ≡ amount.Refused refusal → ReadsRecord bytes r
+    → TakesBody (chip_number_in bytes) (table_number_in bytes) (body_in bytes) r → r.answer ≡ Err refusal → ReadsRecord bytes r
 record_cut bytes refusal r M P e =
     let checks = body_checks (chip_number_in bytes) (table_number_in bytes) (body_in bytes) in
     let number : number_of refusal ≡ first checks = ap (λ (t : ℕ × ℕ). t.0) (ap tells_amount (sym e) ∙ P.answer) in
@@ -225,7 +209,7 @@ complete_judged bytes C =
 
 pub record_accepted : (bytes : List ℕ) (n : ℕ) (plan : Plan) (C : Complete bytes) → first (record_checks bytes) ≡ 0
     → n ≡ record_length C.whole.chip → plan ≡ record_plan bytes C
-    → ReadsRecord bytes (record { answer = amount.Of n; plan = plan })
+    → ReadsRecord bytes (record { answer = Ok n; plan = plan })
 record_accepted bytes n plan C none e d =
     let used : n ≡ when_known (chip_of (chip_number_in bytes)) record_length 0 = rw C.whole.named e in
     let read : plan ≡ plan_in bytes = rw C.whole.named d in
@@ -236,7 +220,7 @@ record_accepted bytes n plan C none e d =
 
 -- a refused write alters no byte
 pub write_refused : (plan : Plan) (old : List ℕ) (refusal : Refusal) → number_of refusal ≡ first (plan_checks plan)
-    → WritesRecord plan old (amount.Refused refusal) old
+    → WritesRecord plan old (Err refusal) old
 write_refused plan old refusal e =
     let f = e ∙ sym (first_refused (plan_checks plan) (room_checks (length (encoded plan)) old) (rw (sym e) (number_of_positive refusal))) in
     record {
@@ -246,7 +230,7 @@ write_refused plan old refusal e =
 
 -- a record is put where there is room, from bytes that begin with it
 module _ (chip : Chip) (plan : Plan) (old : List ℕ) where
-  pub put_short : length old < length (record_of chip plan) → PutsRecord chip plan old (amount.Refused Refusal.OutputTooShort) old
+  pub put_short : length old < length (record_of chip plan) → PutsRecord chip plan old (Err Refusal.OutputTooShort) old
   put_short h =
       let f : 9 ≡ first (room_checks (length (record_of chip plan)) old) = rw (lt-ltb (length old) (length (record_of chip plan)) h) in
       record {
@@ -254,19 +238,18 @@ module _ (chip : Chip) (plan : Plan) (old : List ℕ) where
         bytes = when_refused Refusal.OutputTooShort _ old f;
       }
 
-  pub put_whole : (n : ℕ) (bytes new : List ℕ) → n ≡ length (record_of chip plan) → take n bytes ≡ record_of chip plan → n ≤ length old
-      → new ≡ paste old 0 bytes n → PutsRecord chip plan old (amount.Of n) new
-  put_whole n bytes new e front h copied =
+  pub put_whole : (n : ℕ) (new : List ℕ) → n ≡ length (record_of chip plan) → n ≤ length old → new ≡ record_of chip plan ++ drop n old
+      → PutsRecord chip plan old (Ok n) new
+  put_whole n new e h written =
       let checks = room_checks (length (record_of chip plan)) old in
       let f : first checks ≡ 0 = rw (le-ltb (length old) (length (record_of chip plan)) (omega arith)) in
-      let rest : 0 + n ≡ length (record_of chip plan) = omega arith in
       record {
         answer = told_passed checks n f ∙ ap (told checks) e;
-        bytes = copied ∙ (λ i. front i ++ drop (rest i) old) ∙ when_passed _ old f;
+        bytes = written ∙ ap (λ (k : ℕ). record_of chip plan ++ drop k old) e ∙ when_passed _ old f;
       }
 
   -- an accepted plan is refused only for want of room
-  pub write_put : {r : Amount} {new : List ℕ} → chip_of plan.chip ≡ Known chip → first (plan_checks plan) ≡ 0 → PutsRecord chip plan old r new
+  pub write_put : {r : (Result ℕ Refusal)} {new : List ℕ} → chip_of plan.chip ≡ Some chip → first (plan_checks plan) ≡ 0 → PutsRecord chip plan old r new
       → WritesRecord plan old r new
   write_put named judged p =
       let checks = room_checks (length (record_of chip plan)) old in

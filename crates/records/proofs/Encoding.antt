@@ -1,18 +1,16 @@
 -- A plan's record has as many bytes as the paper says, and what comes back of a plan is judged as the plan is.
 -- Assumes nothing.
+use Rattle.std.specs.Prelude.{Option, Some, None}
 use Prim.Native.Nat.{ℕ, ◌+◌, ◌≤◌}
 use native.Mathlib.Omega.{arith}
-use mathlib.Core.Path.{◌≡◌, refl, sym, ap, ap₂, ◌∙◌}
+use mathlib.Core.Path.{◌≡◌, refl, sym, ap, ap₂, ◌∙◌, subst}
 use mathlib.Core.Bool.{Bool, true, false, cond, ◌&&◌}
-use mathlib.Core.List.{List, [], ◌++◌}
+use mathlib.Core.List.{List, []}
 use lib.Dec.{eqb}
 use lib.ListN.{length, get_or, take, length-append}
-use lib.Seq.{take-append-add}
 use Rattle.refusal.specs.Checks.{first}
 use Rattle.pages.specs.declared.Chip.{Chip}
 use Rattle.pages.specs.declared.Chip.TheVariants.{Nct7802y, F75373s, Nct7904d, W83793g}
-use Rattle.pages.specs.declared.Named.{Named}
-use Rattle.pages.specs.declared.Named.TheVariants.{Known, Unknown}
 use Rattle.pages.specs.declared.Shape.{Shape}
 use Rattle.pages.specs.declared.Shape.TheVariants.{Slope, Steps}
 use Rattle.pages.specs.declared.Layout.{Layout}
@@ -28,7 +26,7 @@ use Rattle.bodies.specs.Bodies.{body_of, own_of}
 use Rattle.bodies.proofs.Laws.{body_length_is, column_begins, own_chip, own_table, own_points, own_curve, own_temperatures, own_speeds}
 use Rattle.plans.specs.Plans.{holdable, points_pass, temperatures_pass, speeds_pass}
 use Rattle.plans.specs.Promises.{plan_checks}
-use Rattle.records.specs.Records.{header, counting, body_size, body_length, record_length, record_body, record_of, encoded}
+use Rattle.records.specs.Records.{counting, body_size, body_length, record_length, record_body, record_of, encoded}
 
 -- "9 bytes for chip 1, 14 for chip 2", 9 for chip 4, and 16 for chip 5, the point count with them
 pub body_lengths : (body_length Nct7802y ≡ 9) × (body_length F75373s ≡ 14) × (body_length Nct7904d ≡ 9) × (body_length W83793g ≡ 16)
@@ -97,6 +95,9 @@ registers_short chip table =
     let t = table_of chip table in
     omega (arith, table_short chip table, length-append t.settings t.speeds)
 
+pub laid_short : (chip : Chip) (table : ℕ) (l : Layout) → l ≡ layout_of chip table → l.settings + l.speeds ≤ longest
+laid_short chip table l e = subst (λ (k : Layout). k.settings + k.speeds ≤ longest) (sym e) (registers_short chip table)
+
 room_short : (shape : Shape) → Roomy shape → (room shape).0 + (room shape).1 ≤ longest
 room_short (Slope points full) p = omega (arith, p)
 room_short Steps p = omega arith
@@ -104,8 +105,8 @@ room_short Steps p = omega arith
 pub record_short : (plan : Plan) → Sized plan → length (encoded plan) ≤ 5 + longest
 record_short plan S = by_name (chip_of plan.chip)
   where
-    by_name : (named : Named) → length (when_known named (λ chip. record_of chip plan) []) ≤ 5 + longest
-    by_name (Known chip) =
+    by_name : (named : Option Chip) → length (when_known named (λ chip. record_of chip plan) []) ≤ 5 + longest
+    by_name (Some chip) =
         let l = layout_of chip plan.table in
         let fits = table_roomy chip plan.table in
         omega (
@@ -116,29 +117,19 @@ record_short plan S = by_name (chip_of plan.chip)
           body_length_is l.leading l.shape plan S fits,
           room_short l.shape fits,
         )
-    by_name Unknown = omega arith
+    by_name None = omega arith
 
--- its header, its point count and its body with zeros behind it begin with it
-pub record_begins : (chip : Chip) (plan : Plan) → Sized plan
+-- a plan's body begins its bytes with zeros behind them, and is one byte for each register of its table
+pub body_begins : (chip : Chip) (plan : Plan) → Sized plan → has_table chip plan.table ≡ true
     → (let l = layout_of chip plan.table in
-    take (length (record_of chip plan))
-    (header l.counted plan.chip plan.table
-    ++ (counting l.counted plan.points ++ column longest (λ k. get_or (body_of l.leading l.shape plan) k 0)))
-    ≡ record_of chip plan)
-record_begins chip plan S =
+    take (l.settings + l.speeds) (column longest (λ k. get_or (body_of l.leading l.shape plan) k 0)) ≡ body_of l.leading l.shape plan)
+body_begins chip plan S has =
     let l = layout_of chip plan.table in
-    let front = header l.counted plan.chip plan.table in
-    let count = counting l.counted plan.points in
     let values = body_of l.leading l.shape plan in
     let fits = table_roomy chip plan.table in
-    let bytes = column longest (λ k. get_or values k 0) in
-    let whole : length (record_of chip plan) ≡ length front + length (count ++ values) = omega arith in
-    ap (λ (n : ℕ). take n (front ++ (count ++ bytes))) whole
-    ∙ take-append-add front (count ++ bytes) (length (count ++ values))
-    ∙ ap (λ (n : ℕ). front ++ take n (count ++ bytes)) (length-append count values)
-    ∙ ap (λ (r : List ℕ). front ++ r) (take-append-add count bytes (length values))
-    ∙ ap (λ (r : List ℕ). front ++ (count ++ r))
-    (column_begins values longest (omega (arith, body_length_is l.leading l.shape plan S fits, room_short l.shape fits)))
+    let size = body_length_is l.leading l.shape plan S fits in
+    ap (λ (n : ℕ). take n (column longest (λ k. get_or values k 0))) (sym (size ∙ body_of_shape chip plan.table has))
+    ∙ column_begins values longest (omega (arith, size, room_short l.shape fits))
 
 -- a point count that no record carries goes with every table
 own_goes : (counted : Bool) (points n : ℕ) → cond counted (eqb (cond counted points 0) n) true ≡ cond counted (eqb points n) true
@@ -184,5 +175,5 @@ module _ (chip : Chip) (plan : Plan) (S : Sized plan) where
       ∙ ap₂ (λ (order : Bool) (values : List ℕ). order && holdable chip (table_of chip plan.table).speeds values)
       (own_speeds shape count plan S fits) (λ i. (own_curve shape count plan S fits i).speeds)
 
-  pub own_judged : chip_of plan.chip ≡ Known chip → first (plan_checks back) ≡ first (plan_checks plan)
+  pub own_judged : chip_of plan.chip ≡ Some chip → first (plan_checks back) ≡ first (plan_checks plan)
   own_judged e = rw (own_chip shape count plan, own_table shape count plan, e, points_judged, temperatures_judged, speeds_judged)

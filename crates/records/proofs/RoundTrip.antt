@@ -1,5 +1,7 @@
 -- Round trips, about the contracts: what is written is read back, what was read is written back as the bytes used, and a plan has one encoding.
 -- Assumes nothing.
+use Rattle.std.specs.Prelude.{Result, Ok, Some}
+use Rattle.refusal.specs.declared.Refusal.{Refusal}
 use Prim.Native.Nat.{ℕ, suc, ◌+◌, ◌≤◌, ◌<◌}
 use native.Mathlib.Omega.{arith}
 use mathlib.Core.Path.{◌≡◌, refl, sym, ap, ap₂, ◌∙◌}
@@ -11,11 +13,8 @@ use lib.ListN.{length, get_or, take, drop, length-append, length-drop}
 use lib.Seq.{get_or-drop, length-take-le}
 use Rattle.refusal.specs.Checks.{first, room_checks}
 use Rattle.refusal.proofs.Passed.{all_passed, first_passed, first_front, when_passed, told_passed}
-use Rattle.refusal.specs.declared.Amount.{Amount}
-use Rattle.refusal.specs.declared.Amount.TheVariants as amount
 use Rattle.refusal.proofs.Answers.{tells_amount_injective}
 use Rattle.pages.specs.declared.Chip.{Chip}
-use Rattle.pages.specs.declared.Named.TheVariants.{Known}
 use Rattle.pages.specs.declared.Shape.{Shape}
 use Rattle.pages.specs.Sheets.{room, goes_with}
 use Rattle.pages.specs.Cards.{chip_of, when_known, shape_of, layout_of}
@@ -106,7 +105,7 @@ pub record ReadAccepted (bytes : List ℕ) (n : ℕ) (plan : Plan) : Type 0 wher
   pub judged : first (plan_checks plan) ≡ 0
   pub record_of_is : encoded plan ≡ take n bytes
 
-pub read_accepts : (bytes : List ℕ) (n : ℕ) (q : Found) → ((k : ℕ) → get_or bytes k 0 < 256) → ReadsRecord bytes q → q.answer ≡ amount.Of n
+pub read_accepts : (bytes : List ℕ) (n : ℕ) (q : Found) → ((k : ℕ) → get_or bytes k 0 < 256) → ReadsRecord bytes q → q.answer ≡ Ok n
     → ReadAccepted bytes n q.plan
 read_accepts bytes n q small R e =
     let t = told_of (record_checks bytes) (when_known (chip_of (chip_number_in bytes)) record_length 0) n q.answer e R.answer in
@@ -124,7 +123,7 @@ read_accepts bytes n q small R e =
 -- A plan has one encoding: bytes that are read as the same plan are the same, as far as they are used
 pub one_encoding : (bytes other : List ℕ) (n m : ℕ) (q s : Found)
     → ((k : ℕ) → get_or bytes k 0 < 256) → ((k : ℕ) → get_or other k 0 < 256)
-    → ReadsRecord bytes q → ReadsRecord other s → q.answer ≡ amount.Of n → s.answer ≡ amount.Of m → q.plan ≡ s.plan
+    → ReadsRecord bytes q → ReadsRecord other s → q.answer ≡ Ok n → s.answer ≡ Ok m → q.plan ≡ s.plan
     → (n ≡ m) × (take n bytes ≡ take m other)
 one_encoding bytes other n m q s small small' R R' e e' same =
     let A = read_accepts bytes n q small R e in
@@ -133,15 +132,15 @@ one_encoding bytes other n m q s small small' R R' e e' same =
     (sym (length-take-le n bytes A.within) ∙ ap length fronts ∙ length-take-le m other B.within, fronts)
 
 -- what was read is written back as exactly the bytes used
-pub read_written : (bytes : List ℕ) (n : ℕ) (q : Found) (old : List ℕ) (r : Amount) (new : List ℕ)
-    → ((k : ℕ) → get_or bytes k 0 < 256) → ReadsRecord bytes q → q.answer ≡ amount.Of n → WritesRecord q.plan old r new → n ≤ length old
-    → (r ≡ amount.Of n) × (new ≡ take n bytes ++ drop n old)
+pub read_written : (bytes : List ℕ) (n : ℕ) (q : Found) (old : List ℕ) (r : Result ℕ Refusal) (new : List ℕ)
+    → ((k : ℕ) → get_or bytes k 0 < 256) → ReadsRecord bytes q → q.answer ≡ Ok n → WritesRecord q.plan old r new → n ≤ length old
+    → (r ≡ Ok n) × (new ≡ take n bytes ++ drop n old)
 read_written bytes n q old r new small R e W room =
     let A = read_accepts bytes n q small R e in
     let size : length (encoded q.plan) ≡ n = ap length A.record_of_is ∙ length-take-le n bytes A.within in
     let fits : first (room_checks (length (encoded q.plan)) old) ≡ 0 = rw (le-ltb (length old) (length (encoded q.plan)) (omega arith)) in
     let none = first_passed (plan_checks q.plan) (room_checks (length (encoded q.plan)) old) refl A.judged ∙ fits in (
-      tells_amount_injective r (amount.Of n)
+      tells_amount_injective r (Ok n)
           (W.answer ∙ sym (told_passed (write_checks q.plan old) (length (encoded q.plan)) none) ∙ ap (λ (k : ℕ). (0, k)) size),
       W.bytes
           ∙ sym (when_passed (encoded q.plan ++ drop (length (encoded q.plan)) old) old none)
@@ -177,9 +176,9 @@ unfolding points_pass
 goes chip plan e = e
 
 -- a plan's record, with whatever bytes stand behind it
-record_read : (chip : Chip) (plan : Plan) (rest : List ℕ) (q : Found) → Sized plan → chip_of plan.chip ≡ Known chip
+record_read : (chip : Chip) (plan : Plan) (rest : List ℕ) (q : Found) → Sized plan → chip_of plan.chip ≡ Some chip
     → first (plan_checks plan) ≡ 0 → ReadsRecord (record_of chip plan ++ rest) q
-    → (q.answer ≡ amount.Of (length (record_of chip plan)))
+    → (q.answer ≡ Ok (length (record_of chip plan)))
     × (q.plan ≡ own_of (shape_of chip plan.table) (cond (layout_of chip plan.table).counted plan.points 0) plan)
 record_read chip plan rest q S e accepts R =
     let bytes = record_of chip plan ++ rest in
@@ -208,31 +207,31 @@ record_read chip plan rest q S e accepts R =
     sym (complete_judged bytes C) ∙ ap (λ (p : Plan). first (plan_checks p)) back ∙ own_judged chip plan S e ∙ accepts in
     let used_bytes : when_known (chip_of plan.chip) record_length 0 ≡ length (record_of chip plan) = rw e (sym (record_of_plan chip plan S has)) in
     let plan_in_is : plan_in bytes ≡ own = rw e back in (
-      tells_amount_injective q.answer (amount.Of (length (record_of chip plan)))
+      tells_amount_injective q.answer (Ok (length (record_of chip plan)))
           (R.answer
           ∙ sym (told_passed (record_checks bytes) (when_known (chip_of plan.chip) record_length 0) none)
           ∙ ap (λ (k : ℕ). (0, k)) used_bytes),
       R.plan ∙ sym (when_passed (plan_in bytes) no_plan none) ∙ plan_in_is,
     )
 
-named_read : (chip : Chip) (plan : Plan) (rest : List ℕ) (q : Found) → Sized plan → chip_of plan.chip ≡ Known chip
-    → first (plan_checks plan) ≡ 0 → ReadsRecord (encoded plan ++ rest) q → (q.answer ≡ amount.Of (length (encoded plan))) × (q.plan ≡ own plan)
+named_read : (chip : Chip) (plan : Plan) (rest : List ℕ) (q : Found) → Sized plan → chip_of plan.chip ≡ Some chip
+    → first (plan_checks plan) ≡ 0 → ReadsRecord (encoded plan ++ rest) q → (q.answer ≡ Ok (length (encoded plan))) × (q.plan ≡ own plan)
 named_read chip plan rest q S e accepts = rw e (record_read chip plan rest q S e accepts)
 
 -- what is written is read back: all of it, and the plan with the other chip's values zero
-pub written_read : (plan : Plan) (old : List ℕ) (n : ℕ) (r : Amount) (new : List ℕ) (q : Found) → Sized plan
-    → WritesRecord plan old r new → r ≡ amount.Of n → ReadsRecord new q → (q.answer ≡ amount.Of n) × (q.plan ≡ own plan)
+pub written_read : (plan : Plan) (old : List ℕ) (n : ℕ) (r : Result ℕ Refusal) (new : List ℕ) (q : Found) → Sized plan
+    → WritesRecord plan old r new → r ≡ Ok n → ReadsRecord new q → (q.answer ≡ Ok n) × (q.plan ≡ own plan)
 written_read plan old n r new q S W e R =
     let t = told_of (write_checks plan old) (length (encoded plan)) n r e W.answer in
     let accepts = first_front (plan_checks plan) (room_checks (length (encoded plan)) old) refl t.0 in
     let known = chip_known plan.chip (accepted_known plan accepts) in
     let wrote : new ≡ encoded plan ++ drop (length (encoded plan)) old = W.bytes ∙ sym (when_passed _ old t.0) in
     let back = named_read known.chip plan (drop (length (encoded plan)) old) q S known.named accepts (rw wrote at R) in
-    (back.0 ∙ ap amount.Of (sym t.1), back.1)
+    (back.0 ∙ ap Ok (sym t.1), back.1)
 
 -- "only such plans come back equal from their record": those whose other chip's values are zero
-pub comes_back : (plan : Plan) (old : List ℕ) (n : ℕ) (r : Amount) (new : List ℕ) (q : Found) → Sized plan
-    → WritesRecord plan old r new → r ≡ amount.Of n → ReadsRecord new q
+pub comes_back : (plan : Plan) (old : List ℕ) (n : ℕ) (r : Result ℕ Refusal) (new : List ℕ) (q : Found) → Sized plan
+    → WritesRecord plan old r new → r ≡ Ok n → ReadsRecord new q
     → (own plan ≡ plan → q.plan ≡ plan) × (q.plan ≡ plan → own plan ≡ plan)
 comes_back plan old n r new q S W e R =
     let back = (written_read plan old n r new q S W e R).1 in

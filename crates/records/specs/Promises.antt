@@ -1,7 +1,7 @@
 -- What the reader and the writer of records check, in the paper's order, and promise.
 -- Assumes nothing.
-use Rattle.std.specs.Prelude.{ℕ, ◌≡◌, Bool, true, false, cond, not, ◌&&◌, ◌||◌, List, [], ◌∷◌, ◌++◌, eqb, ltb, length, get_or, drop}
-use Rattle.refusal.specs.declared.Amount.{Amount}
+use Rattle.std.specs.Prelude.{ℕ, ◌≡◌, Bool, true, false, cond, not, ◌&&◌, ◌||◌, List, [], ◌∷◌, ◌++◌, eqb, ltb, length, get_or, drop, Result}
+use Rattle.refusal.specs.declared.Refusal.{Refusal}
 use Rattle.refusal.specs.Answers.{tells_amount}
 use Rattle.refusal.specs.Checks.{Check, first, told, left, room_checks}
 use Rattle.pages.specs.declared.Layout.{Layout}
@@ -76,10 +76,10 @@ pub record ReadsRecord (bytes : List ℕ) (r : Found) : Type 0 where
 
 -- what a call that writes a plan's record promises, by its own list of checks: "An output longer than the result keeps its tail", and a refused
 -- one holds what it held ..
-pub record WritesRecordBy (checks : List Check) (plan : Plan) (old : List ℕ) (r : Amount) (new : List ℕ) : Type 0 where
+pub record WritesRecordBy (checks : List Check) (plan : Plan) (old : List ℕ) (r : Result ℕ Refusal) (new : List ℕ) : Type 0 where
   pub answer : tells_amount r ≡ told checks (length (encoded plan))
   pub bytes : new ≡ left checks (encoded plan ++ drop (length (encoded plan)) old) old
 
 -- .. and so what `records::write` promises
-abbrev pub WritesRecord : Plan → List ℕ → Amount → List ℕ → Type 0
+abbrev pub WritesRecord : Plan → List ℕ → Result ℕ Refusal → List ℕ → Type 0
 WritesRecord plan old r new = WritesRecordBy (write_checks plan old) plan old r new

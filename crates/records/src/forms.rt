@@ -1,10 +1,9 @@
 // The two forms of a record: with the mark 43h 50h, and with the mark 43h 51h and a point count.
-ghost use Rattle.std.specs.Prelude.{◌+◌, ◌≤◌, ◌<◌, ◌≡◌, cond, ◌&&◌, ◌||◌, ◌++◌, eqb, get_or};
+ghost use Rattle.std.specs.Prelude.{◌+◌, ◌≤◌, ◌≡◌, cond, ◌&&◌, ◌||◌, ◌++◌, eqb, length};
 ghost use Rattle.pages.specs.Sheets.{longest};
 ghost use Rattle.records.specs.Records.{mark_of, header, counting, body_size};
 ghost use Rattle.records.specs.Promises.{count_out};
 
-use bodies::LONGEST;
 use pages::Layout;
 
 // The mark's second byte.
@@ -25,10 +24,10 @@ pub(crate) fn is_mark(first: u8, second: u8) -> bool
 pub(crate) fn is_count_out(layout: Layout, bytes: &[u8]) -> bool
     ensures { result ≡ count_out layout bytes.now }
 {
-    if bytes.len() == 0 {
-        return false;
+    match bytes.first() {
+        Some(points) => !pages::goes_with(layout, *points),
+        None => false,
     }
-    !pages::goes_with(layout, bytes[0])
 }
 
 // How many bytes stand behind the header.
@@ -38,42 +37,28 @@ pub(crate) fn body_size(layout: Layout) -> usize
 {
     let registers = layout.settings + layout.speeds;
     if layout.counted {
-        return 1 + registers;
+        1 + registers
+    } else {
+        registers
     }
-    registers
 }
 
-// The bytes behind the header, by place: the point count, where there is one, then the body.
-fn behind_header(counted: bool, points: u8, body: [u8; LONGEST], k: usize) -> u8
-    requires { k < cond counted 1 0 + longest }
-    ensures { result ≡ get_or (counting counted points ++ body) k 0 }
+// The mark, then the numbers of the chip and of the table.
+pub(crate) fn header(counted: bool, chip: u8, table: u8) -> [u8; 4]
+    ensures { result ≡ header counted chip table }
+{
+    [0x43, mark_of(counted), chip, table]
+}
+
+// Writes what stands behind the header: the point count, where there is one, then the body.
+pub(crate) fn put_body(counted: bool, points: u8, body: &[u8], out: &mut [u8])
+    requires { cond counted 1 0 + length body.now ≡ length out.old }
+    ensures { out.new ≡ counting counted points ++ body.now }
 {
     if counted {
-        if k == 0 {
-            return points;
-        }
-        return body[k - 1];
-    }
-    body[k]
-}
-
-// A record's bytes, by place: the mark, chip, table, and what stands behind them.
-pub(crate) fn byte_at(
-    counted: bool,
-    chip: u8,
-    table: u8,
-    points: u8,
-    body: [u8; LONGEST],
-    at: usize,
-) -> u8
-    requires { at < 4 + (cond counted 1 0 + longest) }
-    ensures { result ≡ get_or (header counted chip table ++ (counting counted points ++ body)) at 0 }
-{
-    match at {
-        0 => 0x43,
-        1 => mark_of(counted),
-        2 => chip,
-        3 => table,
-        _ => behind_header(counted, points, body, at - 4),
+        out[0] = points;
+        out[1..].copy_from_slice(body);
+    } else {
+        out.copy_from_slice(body);
     }
 }

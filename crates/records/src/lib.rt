@@ -11,29 +11,22 @@ ghost use Rattle.records.specs.Parts.{Refuses, looked_at, TakesBy, Headed, PutsR
 ghost use Rattle.records.specs.Promises.{TakesBody, ReadsRecord, WritesRecord};
 
 use curves::{NO_SLOPE, NO_STEPS, Plan};
-use images::Admitted;
-use pages::{Chip, Fan, Layout, Named};
-use refusal::{Amount, Outcome, Refusal};
+use pages::{Chip, Layout};
+use refusal::Refusal;
 
-// What is read: the bytes used, and the plan, which is all zeros where the record is refused.
+// What is read: the bytes used, and the plan, which is all zeros where the record is refused. It is no Result of both: the rules paper wants
+// "answers that hold arrays stand beside an enum".
 #[derive(Clone, Copy)]
 pub struct Found {
-    pub answer: Amount,
+    pub answer: Result<usize, Refusal>,
     pub plan: Plan,
-}
-
-// How a chip's fan table is laid out, or why there is none.
-#[derive(Clone, Copy)]
-pub(crate) enum Looked {
-    Laid(Layout),
-    Refused(Refusal),
 }
 
 fn refused(refusal: Refusal) -> Found
     ensures { Refuses refusal result }
 {
     Found {
-        answer: Amount::Refused(refusal),
+        answer: Err(refusal),
         plan: Plan {
             chip: 0,
             table: 0,
@@ -44,16 +37,12 @@ fn refused(refusal: Refusal) -> Found
     }
 }
 
-fn look(chip: u8, table: u8) -> Looked
+// How a chip's fan table is laid out.
+fn look(chip: u8, table: u8) -> Result<Layout, Refusal>
     ensures { result ≡ looked_at chip table }
 {
-    let Named::Known(known) = cards::chip_of(chip) else {
-        return Looked::Refused(Refusal::NoSuchChip);
-    };
-    match cards::table_of(known, table) {
-        Fan::Laid(layout) => Looked::Laid(layout),
-        Fan::Nothing => Looked::Refused(Refusal::NoSuchTable),
-    }
+    let known = Chip::try_from(chip)?;
+    cards::table_of(known, table).ok_or(Refusal::NoSuchTable)
 }
 
 // The plan of a table that is laid out so and of the bytes behind a header, the point count first where the record carries one.
@@ -71,12 +60,12 @@ fn plan_by(layout: Layout, chip: u8, table: u8, bytes: &[u8]) -> Found
     let shape = layout.shape;
     if layout.counted {
         return Found {
-            answer: Amount::Of(length),
+            answer: Ok(length),
             plan: bodies::plan_of(shape, layout.leading, chip, table, bytes[0], &bytes[1..]),
         };
     }
     Found {
-        answer: Amount::Of(length),
+        answer: Ok(length),
         plan: bodies::plan_of(shape, layout.leading, chip, table, 0, bytes),
     }
 }
@@ -86,8 +75,8 @@ pub fn plan_from(chip: u8, table: u8, bytes: &[u8]) -> Found
     ensures { TakesBody chip table bytes.now result }
 {
     match look(chip, table) {
-        Looked::Refused(refusal) => refused(refusal),
-        Looked::Laid(layout) => plan_by(layout, chip, table, bytes),
+        Err(refusal) => refused(refusal),
+        Ok(layout) => plan_by(layout, chip, table, bytes),
     }
 }
 
@@ -101,15 +90,15 @@ fn read_by(layout: Layout, bytes: &[u8]) -> Found
     }
     let found = plan_by(layout, bytes[2], bytes[3], &bytes[4..]);
     let answer = found.answer;
-    let Amount::Of(length) = answer else {
+    let Ok(length) = answer else {
         return found;
     };
     let plan = found.plan;
-    if let Outcome::Refused(refusal) = plans::judge(plan) {
+    if let Err(refusal) = plans::judge(plan) {
         return refused(refusal);
     }
     Found {
-        answer: Amount::Of(4 + length),
+        answer: Ok(4 + length),
         plan,
     }
 }
@@ -125,36 +114,37 @@ pub fn read(bytes: &[u8]) -> Found
         return refused(Refusal::WrongMark);
     }
     match look(bytes[2], bytes[3]) {
-        Looked::Refused(refusal) => refused(refusal),
-        Looked::Laid(layout) => read_by(layout, bytes),
+        Err(refusal) => refused(refusal),
+        Ok(layout) => read_by(layout, bytes),
     }
 }
 
 // Writes the record of a chip's plan to the front of the buffer.
-fn put(chip: Chip, plan: Plan, out: &mut [u8]) -> Amount
+fn put(chip: Chip, plan: Plan, out: &mut [u8]) -> Result<usize, Refusal>
     requires { So (has_table chip plan.table) }
     ensures { PutsRecord chip plan out.old result out.new }
 {
     let layout = cards::layout_of(chip, plan.table);
     let length = 4 + forms::body_size(layout);
     if out.len() < length {
-        return Amount::Refused(Refusal::OutputTooShort);
+        return Err(Refusal::OutputTooShort);
     }
-    let counted = layout.counted;
-    let shape = layout.shape;
-    let body = bodies::body_of(shape, layout.leading, plan);
-    for at in 0..length {
-        out[at] = forms::byte_at(counted, plan.chip, plan.table, plan.points, body, at);
-    }
-    Amount::Of(length)
+    let body = bodies::body_of(layout.shape, layout.leading, plan);
+    let registers = layout.settings + layout.speeds;
+    out[..4].copy_from_slice(&forms::header(layout.counted, plan.chip, plan.table));
+    forms::put_body(
+        layout.counted,
+        plan.points,
+        &body[..registers],
+        &mut out[4..length],
+    );
+    Ok(length)
 }
 
 // Writes a plan's record to the front of the buffer, and answers its length.
-pub fn write(plan: Plan, out: &mut [u8]) -> Amount
+pub fn write(plan: Plan, out: &mut [u8]) -> Result<usize, Refusal>
     ensures { WritesRecord plan out.old result out.new }
 {
-    match plans::accept(plan) {
-        Admitted::Refused(refusal) => Amount::Refused(refusal),
-        Admitted::Known(chip) => put(chip, plan, out),
-    }
+    let chip = plans::accept(plan)?;
+    put(chip, plan, out)
 }

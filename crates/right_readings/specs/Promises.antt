@@ -1,9 +1,9 @@
 -- What the calls of `right_readings` promise for every input: readings of the NCT7904D, L1's "readings with the low three bits right-aligned in the low
 -- byte".
 -- Assumes nothing.
-use Rattle.std.specs.Prelude.{ℕ, ◌≡◌, not, List, [], ◌∷◌, ℤ}
+use Rattle.std.specs.Prelude.{ℕ, ◌≡◌, not, List, [], ◌∷◌, ℤ, Result}
+use Rattle.refusal.specs.declared.Refusal.{Refusal}
 use Rattle.refusal.specs.Checks.{Check, told_or}
-use Rattle.readings.specs.declared.Bytes.{Bytes}
 use Rattle.readings.specs.Readings.{fits, steps_from, bytes_from}
 use Rattle.readings.specs.Promises.{tells_bytes}
 use Rattle.right_readings.specs.Inputs.{input_voltage}
@@ -18,7 +18,7 @@ pub record CountsRight (high low : ℕ) (steps : ℤ) : Type 0 where
   pub answer : steps ≡ steps_from 11 1 high low
 
 -- what `right_readings::right_bytes` promises
-pub record GivesRight (steps : ℤ) (r : Bytes) : Type 0 where
+pub record GivesRight (steps : ℤ) (r : Result (ℕ × ℕ) Refusal) : Type 0 where
   pub answer : tells_bytes r ≡ told_or (0, 0) (right_checks steps) (bytes_from 11 1 steps)
 
 -- what `right_readings::input_microvolts` promises

@@ -1,30 +1,28 @@
-// Readings whose low bits are right-aligned: temperatures and voltages of the NCT7904D.
+// Readings whose low bits are right-aligned: temperatures and voltages of the NCT7904D. The two bytes come as C hands them in.
 #![tactic(auto)]
 
 ghost use Rattle.std.specs.Prelude.{◌≡◌, ◌≤◌};
 ghost use Rattle.right_readings.specs.Inputs.{inputs, worth_in};
 ghost use Rattle.right_readings.specs.Promises.{CountsRight, GivesRight, MeasuresInput};
 
-use readings::Bytes;
 use refusal::Refusal;
 
 // The temperature of two bytes in steps of 1/8 degree: the high byte counts degrees, its top bit -128 of them, and the low three bits count steps.
 pub fn right_steps(high: u8, low: u8) -> i16
     ensures { CountsRight high low result }
 {
-    let steps = (8 * high as u16 + (low % 8) as u16) as i16;
-    if high < 0x80 { steps } else { steps - 2048 }
+    8 * high.cast_signed() as i16 + (low % 8) as i16
 }
 
 // The two bytes of such a temperature.
-pub fn right_bytes(steps: i16) -> Bytes
+pub fn right_bytes(steps: i16) -> Result<(u8, u8), Refusal>
     ensures { GivesRight steps result }
 {
     if (-1024 <= steps) & (steps < 1024) {
         let word = readings::as_word(steps);
-        return Bytes::Pair((word / 8 % 256) as u8, (word % 8) as u8);
+        return Ok(((word / 8 % 256) as u8, (word % 8) as u8));
     }
-    Bytes::Refused(Refusal::StepsDoNotFit)
+    Err(Refusal::StepsDoNotFit)
 }
 
 // What a count of a voltage is worth in microvolts, by the address of its high byte; 0 where no voltage's high byte stands.

@@ -1,5 +1,6 @@
 -- What each answer of `script` knows is what its contract asks: the plan is refused, or the pairs are put where there is room; and so of `make`.
 -- Assumes nothing.
+use Rattle.std.specs.Prelude.{Result, Err}
 use Prim.Native.Nat.{ℕ, zero, suc, ◌*◌, ◌≤◌, min}
 use native.Mathlib.Nat.{min-eq_left, min-eq_right, min-le_right}
 use native.Mathlib.Omega.{arith}
@@ -15,18 +16,17 @@ use Rattle.refusal.specs.Refusals.{number_of}
 use Rattle.refusal.specs.Checks.{Check, first, left, room_checks}
 use Rattle.refusal.proofs.Numbers.{number_of_positive}
 use Rattle.refusal.proofs.Passed.{numbered, first_passed, first_refused, when_refused, told_refused}
-use Rattle.refusal.specs.declared.Amount.{Amount}
-use Rattle.refusal.specs.declared.Amount.TheVariants as amount
 use Rattle.pages.specs.declared.Chip.{Chip}
 use Rattle.curves.specs.declared.Plan.{Plan}
 use Rattle.curves.specs.Values.{Sized}
 use Rattle.plans.specs.Promises.{plan_checks}
+use Rattle.scripts.specs.declared.making.Cursor.{Cursor}
 use Rattle.scripts.specs.declared.making.Load.{Load}
+use Rattle.scripts.specs.declared.making.Write.{Write}
 use Rattle.scripts.specs.Scripts.{Pair, placements, routed, addressed, bus, flat, script_of, script_for}
 use Rattle.scripts.specs.Played.{laid}
 use Rattle.scripts.specs.Promises.{script_checks, Scripts, Makes}
-use Rattle.scripts.specs.Making.{writes_of, pairs_of, made_of, load_of, loaded_bytes, PutsPairs}
-use Rattle.scripts.proofs.Walk.{pairs_length}
+use Rattle.scripts.specs.Making.{writes_of, start, coming, pair_of, sent, made_of, load_of, loaded_bytes, PutsPairs}
 use Rattle.scripts.proofs.Prepared.{load_writes, load_makes}
 
 -- a refusal by the first checks is one by all of them
@@ -45,26 +45,25 @@ module _ (plan : Plan) (out : List ℕ) where
   abbrev pairs : List Pair
   pairs = script_for plan
 
-  pub script_refused : (r : Refusal) → number_of r ≡ first (plan_checks plan) → Scripts plan out (amount.Refused r) out
+  pub script_refused : (r : Refusal) → number_of r ≡ first (plan_checks plan) → Scripts plan out (Err r) out
   script_refused r e =
       let all = still_refused r (plan_checks plan) (room_checks (2 * length pairs) out) e in
       record { answer = told_refused r (script_checks plan out) (length pairs) all; bytes = when_refused r _ out all }
 
-  pub script_put : {l : Load} {bytes new : List ℕ} {r : Amount} → first (plan_checks plan) ≡ 0
-      → map addressed (pairs_of l bytes (writes_of l)) ≡ pairs
-      → PutsPairs l bytes out r new
+  pub script_put : {ws : List Write} {new : List ℕ} {r : Result ℕ Refusal} → first (plan_checks plan) ≡ 0
+      → map addressed (map pair_of ws) ≡ pairs
+      → PutsPairs ws out r new
       → Scripts plan out r new
-  script_put {l} {bytes} {new} {r} e whole p =
-      let writes : writes_of l ≡ length pairs =
-      sym (pairs_length l bytes (writes_of l)) ∙ sym (length-map (pairs_of l bytes (writes_of l)) addressed) ∙ ap length whole in
-      let checks : first (room_checks (2 * writes_of l) out) ≡ first (script_checks plan out) =
+  script_put {ws} {new} {r} e whole p =
+      let writes : length ws ≡ length pairs = sym (length-map ws pair_of) ∙ sym (length-map (map pair_of ws) addressed) ∙ ap length whole in
+      let checks : first (room_checks (2 * length ws) out) ≡ first (script_checks plan out) =
       ap (λ (n : ℕ). first (room_checks (2 * n) out)) writes ∙ sym (first_passed (plan_checks plan) (room_checks (2 * length pairs) out) refl e) in
       record {
         answer = p.answer ∙ ap₂ (λ (n w : ℕ). (n, cond (eqb n 0) w 0)) checks writes;
         bytes =
             p.pairs
-            ∙ ap₂ (λ (n w : ℕ). cond (eqb n 0) (flat (map addressed (pairs_of l bytes (writes_of l))) ++ drop (2 * w) out) out) checks writes
-            ∙ ap (λ (ws : List Pair). left (script_checks plan out) (flat ws ++ drop (2 * length pairs) out) out) whole;
+            ∙ ap₂ (λ (n w : ℕ). cond (eqb n 0) (sent ws ++ drop (2 * w) out) out) checks writes
+            ∙ ap (λ (us : List Pair). left (script_checks plan out) (flat us ++ drop (2 * length pairs) out) out) whole;
       }
 
 -- the first of as many as there are
@@ -77,15 +76,18 @@ take_least count ws = by_size (leb count (length ws)) refl
         let past : length ws ≤ count = omega (arith, leb-false count (length ws) e) in
         ap (λ (n : ℕ). take n ws) (min-eq_right past) ∙ take_all (length ws) ws (omega arith) ∙ sym (take_all count ws past)
 
+-- equal loads, bodies, cursors and numbers of turns have the same writes
+pub same_writes : {l m : Load} {b d : List ℕ} {c e : Cursor} {n k : ℕ} → l ≡ m → b ≡ d → c ≡ e → n ≡ k → coming l b c n ≡ coming m d e k
+same_writes p q r s = λ i. coming (p i) (q i) (r i) (s i)
+
 -- as many writes as are asked for, or all
-pub made_script : (chip : Chip) (plan : Plan) (count : ℕ) {n w : ℕ} {old new : List ℕ} → Sized plan → w ≡ writes_of (load_of chip plan) → n ≡ min count w
-    → new ≡ made_of (load_of chip plan) (loaded_bytes chip plan) n old → Makes chip plan count old n new
+pub made_script : (chip : Chip) (plan : Plan) (count : ℕ) {n : ℕ} {old new : List ℕ} → Sized plan → n ≡ min count (writes_of (load_of chip plan))
+    → new ≡ made_of (coming (load_of chip plan) (loaded_bytes chip plan) start n) old → Makes chip plan count old n new
 unfolding bus
-made_script chip plan count {n} {w} {old} sized e q m =
+made_script chip plan count {n} {old} sized q m =
     let ws = routed chip (placements chip plan) in
-    let long : writes_of (load_of chip plan) ≡ length (script_of chip plan) = load_writes chip plan sized in
-    let all : n ≡ min count (length (script_of chip plan)) = q ∙ ap (min count) (e ∙ long) in
-    let some : n ≤ writes_of (load_of chip plan) = rw (q ∙ ap (min count) e) (min-le_right count (writes_of (load_of chip plan))) in
+    let all : n ≡ min count (length (script_of chip plan)) = q ∙ ap (min count) (load_writes chip plan sized) in
+    let some : n ≤ writes_of (load_of chip plan) = rw q (min-le_right count (writes_of (load_of chip plan))) in
     record {
       answer = all;
       bytes =

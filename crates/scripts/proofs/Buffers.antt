@@ -1,5 +1,6 @@
 -- What a caller knows who asked for a script into a buffer that holds each: only the plan can be refused there, and the bytes give back the script's pairs.
 -- Assumes nothing.
+use Rattle.std.specs.Prelude.{Result, Ok, Err}
 use Prim.Native.Nat.{ℕ, zero, suc, ◌+◌, ◌*◌, ◌≤◌, ◌<◌}
 use native.Mathlib.Nat.{le_of_suc-le-suc, not-suc-le-zero}
 use native.Mathlib.Omega.{arith}
@@ -14,8 +15,6 @@ use Rattle.refusal.specs.declared.Refusal.{Refusal}
 use Rattle.refusal.specs.Refusals.{number_of}
 use Rattle.refusal.specs.Checks.{first, room_checks}
 use Rattle.refusal.proofs.Passed.{told_passed}
-use Rattle.refusal.specs.declared.Amount.{Amount}
-use Rattle.refusal.specs.declared.Amount.TheVariants as amount
 use Rattle.refusal.specs.Answers.{tells_amount}
 use Rattle.pages.specs.Sheets.{most_writes}
 use Rattle.curves.specs.declared.Plan.{Plan}
@@ -41,17 +40,17 @@ pairs_flat ps rest (suc n) h =
     ap₂ (λ (l : List Pair) (w : Pair). l ++ (w ∷ [])) (pairs_flat ps rest n (omega arith)) (flat_at ps rest n h)
     ∙ sym (take-suc ps n (0, 0) h)
 
-module _ {plan : Plan} {old bytes : List ℕ} {r : Amount} (short : first (plan_checks plan) ≡ 0 → length (script_for plan) ≤ most_writes) (room : length old ≡ 2 * most_writes)
+module _ {plan : Plan} {old bytes : List ℕ} {r : Result ℕ Refusal} (short : first (plan_checks plan) ≡ 0 → length (script_for plan) ≤ most_writes) (room : length old ≡ 2 * most_writes)
     (s : Scripts plan old r bytes) where
   judged : first (script_checks plan old) ≡ first (plan_checks plan)
   judged =
       first_alone (plan_checks plan) (room_checks (2 * length (script_for plan)) old) refl
       (λ e. rw (le-ltb (length old) (2 * length (script_for plan)) (omega (arith, short e))))
 
-  pub refused_by_plan : (q : Refusal) → r ≡ amount.Refused q → number_of q ≡ first (plan_checks plan)
+  pub refused_by_plan : (q : Refusal) → r ≡ Err q → number_of q ≡ first (plan_checks plan)
   refused_by_plan q e = ap (λ (t : ℕ × ℕ). t.0) (sym (ap tells_amount e) ∙ s.answer) ∙ judged
 
-  module _ (n : ℕ) (e : r ≡ amount.Of n) where
+  module _ (n : ℕ) (e : r ≡ Ok n) where
     pub accepted_plan : first (plan_checks plan) ≡ 0
     accepted_plan = sym (ap (λ (t : ℕ × ℕ). t.0) (sym (ap tells_amount e) ∙ s.answer) ∙ judged)
 

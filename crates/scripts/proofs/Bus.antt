@@ -54,6 +54,14 @@ pub bus_length : (chip : Chip) (ws : List Pair) → length (bus chip ws) ≡ sel
 unfolding bus routed
 bus_length chip ws = length-map (routed_from (banks_of chip) no_bank ws) addressed ∙ routed_length (banks_of chip) no_bank ws
 
+-- what is not ready has banks
+pub has_banks : (bits bank p : ℕ) → ready bits bank p ≡ false → eqb bits 0 ≡ false
+has_banks bits bank p r = by_bits (eqb bits 0) refl r
+  where
+    by_bits : (one : Bool) → eqb bits 0 ≡ one → cond one true (eqb bank (p / 256)) ≡ false → eqb bits 0 ≡ false
+    by_bits true e s = absurd (true≢false s)
+    by_bits false e s = e
+
 -- writes to registers that stand where the bus reaches them
 abbrev pub Standing : Chip → List Pair → Type 0
 Standing chip [] = Unit {0}
@@ -180,13 +188,6 @@ module _ (chip : Chip) where
           let same = eqb-true bank (p / 256) s in
           now (omega (arith, same, bank_byte chip p t)) ∙ same
 
-  has_banks : (p bank : ℕ) → ready (banks_of chip).bits bank p ≡ false → eqb (banks_of chip).bits 0 ≡ false
-  has_banks p bank r = by_bits (eqb (banks_of chip).bits 0) refl r
-    where
-      by_bits : (one : Bool) → eqb (banks_of chip).bits 0 ≡ one → cond one true (eqb bank (p / 256)) ≡ false → eqb (banks_of chip).bits 0 ≡ false
-      by_bits true e s = absurd (true≢false s)
-      by_bits false e s = e
-
   follows : (ws : List Pair) (bank : ℕ) (image : List ℕ) → Standing chip ws → length image ≡ size_of chip → Current bank image
       → Follows image (map addressed (routed_from (banks_of chip) bank ws)) (routed_from (banks_of chip) bank ws)
   follows [] bank image h l now = done
@@ -211,7 +212,7 @@ module _ (chip : Chip) where
           (cond r (w ∷ rest) (((banks_of chip).select, w.0 / 256) ∷ (w ∷ rest)))
       by_ready true e f = behind image l (ready_there w.0 bank image h.0 now e) f
       by_ready false e f =
-          let some = has_banks w.0 bank e in
+          let some = has_banks (banks_of chip).bits bank w.0 e in
           let at = (banks_of chip).select in
           wrote (select_lands chip some (w.0 / 256) image)
           (behind (placed chip at (w.0 / 256) image) (stored_at_length (masks_in (row_of chip at)) at (w.0 / 256) image ∙ l)
@@ -288,9 +289,9 @@ module _ (chip : Chip) where
       by_ready true e f zero = (0, s)
       by_ready true e f (suc n) = one_more n x s f
       by_ready false e f zero = (0, s)
-      by_ready false e f (suc zero) = (0, select_same chip (w.0 / 256) x y (has_banks chip w.0 bank e) s)
+      by_ready false e f (suc zero) = (0, select_same chip (w.0 / 256) x y (has_banks (banks_of chip).bits bank w.0 e) s)
       by_ready false e f (suc (suc n)) =
-          one_more n (placed chip (banks_of chip).select (w.0 / 256) x) (select_same chip (w.0 / 256) x y (has_banks chip w.0 bank e) s) f
+          one_more n (placed chip (banks_of chip).select (w.0 / 256) x) (select_same chip (w.0 / 256) x y (has_banks (banks_of chip).bits bank w.0 e) s) f
 
   routed_all : (ws : List Pair) (bank : ℕ) → Standing chip ws → (x y : List ℕ) → Same chip x y
       → Same chip (laid chip (routed_from (banks_of chip) bank ws) x) (laid chip ws y)
@@ -309,7 +310,7 @@ module _ (chip : Chip) where
       by_ready false e f =
           let u = placed chip (banks_of chip).select (w.0 / 256) x in
           f (placed chip w.0 w.1 u) (placed chip w.0 w.1 y)
-          (placed_same chip w.0 w.1 u y (beside chip w.0 h.0) (select_same chip (w.0 / 256) x y (has_banks chip w.0 bank e) s))
+          (placed_same chip w.0 w.1 u y (beside chip w.0 h.0) (select_same chip (w.0 / 256) x y (has_banks (banks_of chip).bits bank w.0 e) s))
 
   -- played to its end, a script leaves what its writes by position leave ..
   pub bus_plays : (ws : List Pair) → Standing chip ws → (image : List ℕ) → length image ≡ size_of chip → (k : ℕ) → length (bus chip ws) ≤ k

@@ -1,5 +1,6 @@
 -- A script has as many writes as the paper says: one for each speed, then one for each register.
 -- Assumes nothing.
+use Rattle.std.specs.Prelude.{Ok, Some}
 use Prim.Native.Nat.{ℕ, ◌*◌, ◌≤◌}
 use native.Mathlib.Nat.{not-suc-le-zero}
 use native.Mathlib.Omega.{arith}
@@ -10,11 +11,9 @@ use borrow.Author.Tests.{leb-true, not-false}
 use lib.Dec.{leb}
 use lib.ListN.{length, length-append, length-map}
 use Rattle.refusal.specs.Checks.{first}
-use Rattle.refusal.specs.declared.Amount.TheVariants as amount
 use Rattle.refusal.proofs.Passed.{all_passed, when_passed}
 use Rattle.pages.specs.declared.Chip.{Chip}
 use Rattle.pages.specs.declared.Chip.TheVariants.{Nct7802y, F75373s, Nct7904d, W83793g}
-use Rattle.pages.specs.declared.Named.TheVariants.{Known}
 use Rattle.pages.specs.declared.Shape.{Shape}
 use Rattle.pages.specs.declared.Shape.TheVariants.{Slope, Steps}
 use Rattle.pages.specs.Banks.{no_bank}
@@ -73,8 +72,8 @@ script_some chip plan has =
     omega (arith, bus_length chip (placements chip plan), some_writes full table curve speeds)
 
 -- "The answer says how many writes."
-pub script_counts : {plan : Plan} {out new : List ℕ} {n : ℕ} (chip : Chip) → chip_of plan.chip ≡ Known chip → Sized plan
-    → Scripts plan out (amount.Of n) new → n ≡ script_length chip
+pub script_counts : {plan : Plan} {out new : List ℕ} {n : ℕ} (chip : Chip) → chip_of plan.chip ≡ Some chip → Sized plan
+    → Scripts plan out (Ok n) new → n ≡ script_length chip
 script_counts {plan} {out} {new} {n} chip e sized p =
     let none : first (script_checks plan out) ≡ 0 = sym (ap (λ (t : ℕ × ℕ). t.0) p.answer) in
     let has = not-false (has_table chip plan.table) (rw e at (all_passed (script_checks plan out) refl none).1.0) in

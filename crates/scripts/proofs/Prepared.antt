@@ -4,10 +4,10 @@ use Prim.Native.Nat.{ℕ, zero, suc, ◌+◌, ◌-◌, ◌/◌, ◌^◌, ◌≤�
 use native.Mathlib.Nat.{not-suc-le-zero}
 use native.Mathlib.Omega.{arith}
 use mathlib.Core.Path.{◌≡◌, refl, sym, ap, ap₂, subst, ◌∙◌}
-use mathlib.Core.Bool.{Bool, true, false, So, cond, true≢false}
+use mathlib.Core.Bool.{Bool, true, false, So, cond}
 use mathlib.Core.List.{List, [], ◌∷◌, ◌++◌, map}
 use borrow.Author.Tests.{ltb-true, ltb-false}
-use lib.Dec.{eqb, ltb}
+use lib.Dec.{ltb}
 use lib.ListN.{length, get_or, take, length-append, length-map}
 use lib.Seq.{take_all}
 use Rattle.pages.specs.declared.Chip.{Chip}
@@ -18,7 +18,7 @@ use Rattle.pages.specs.Rows.{every, Table, masks_in, positions, row_in, stands_a
 use Rattle.pages.specs.Sheets.{longest, missing, loaded, selector_in, register_in}
 use Rattle.pages.specs.Cards.{sheet_of, card_of, banks_of, row_of, has_table, table_of, shape_of}
 use Rattle.pages.proofs.Every.{both, every_append}
-use Rattle.pages.proofs.Columns.{column_length, column_at}
+use Rattle.pages.proofs.Columns.{column_at}
 use Rattle.pages.proofs.Selectors.{selector_bits, selector_register, selects_most}
 use Rattle.pages.proofs.Sound.{stands}
 use Rattle.pages.proofs.Tables.{table_short, table_none, table_stands, table_ground, register_position, register_at_is, register_bank}
@@ -30,17 +30,15 @@ use Rattle.curves.specs.Values.{Sized}
 use Rattle.bodies.specs.Bodies.{body}
 use Rattle.plans.specs.Plans.{planned_for}
 use Rattle.plans.proofs.Fits.{settings_long, speeds_long}
+use Rattle.scripts.specs.declared.making.Cursor.{Cursor}
 use Rattle.scripts.specs.declared.making.Load.{Load}
 use Rattle.scripts.specs.declared.making.Write.{Write}
 use Rattle.scripts.specs.Scripts.{Pair, writes, script, placements, routed_from, routed, addressed, bus, script_of}
 use Rattle.scripts.specs.Played.{laid}
-use Rattle.scripts.specs.Making.{registers_of, writes_of, place_at, byte_at, register_of, bank_of, ready_at, cursor_at, write_at, pairs_of, made_of, Short, load_of, loaded_bytes}
-use Rattle.scripts.proofs.Bus.{Standing, standing_append, laid_append}
+use Rattle.scripts.specs.Making.{registers_of, writes_of, place_at, byte_at, register_of, bank_of, ready_at, stepped, write_from, start, cursor_at, coming, all_writes, pair_of, made_of, Short, load_of, loaded_bytes}
+use Rattle.scripts.proofs.Bus.{has_banks, Standing, standing_append}
 use Rattle.scripts.proofs.Pairs.{nothing, script_length_is, script_registers, raised_at, body_at}
 use Rattle.scripts.proofs.Walk.{Describes, walk_length, walk_turns, walk_pairs}
-
-pub body_long : (chip : Chip) (plan : Plan) {bytes : List ℕ} → bytes ≡ loaded_bytes chip plan → length bytes ≡ longest
-body_long chip plan e = ap length e ∙ column_length longest (λ k. get_or (body (planned_for chip plan)) k 0)
 
 -- writes that stand in a table's registers stand where the bus reaches them
 writes_stand : (chip : Chip) (ps bs : List ℕ) → So (every (stands (sheet_of chip)) ps) → Standing chip (writes ps bs)
@@ -184,12 +182,12 @@ module _ (chip : Chip) (plan : Plan) where
         ∙ sym (length-map (routed_from (banks_of chip) no_bank (placements chip plan)) addressed)
 
     -- its first writes are the first of the script
-    pub load_pairs : (n : ℕ) → n ≤ writes_of load → pairs_of load bytes n ≡ take n (routed chip (placements chip plan))
+    pub load_pairs : (n : ℕ) → n ≤ writes_of load → map pair_of (coming load bytes start n) ≡ take n (routed chip (placements chip plan))
     unfolding routed
     load_pairs = walk_pairs load bytes (banks_of chip) (placements chip plan) places
 
     -- and so all of them on the bus
-    pub load_script : map addressed (pairs_of load bytes (writes_of load)) ≡ script_of chip plan
+    pub load_script : map addressed (map pair_of (all_writes load bytes)) ≡ script_of chip plan
     unfolding bus routed
     load_script =
         ap (map addressed)
@@ -198,39 +196,38 @@ module _ (chip : Chip) (plan : Plan) where
         (omega (arith, walk_length load bytes (banks_of chip) (placements chip plan) places)))
 
     -- each write goes by the masks of its position
-    masked : (n : ℕ) → n < writes_of load → (write_at load bytes n).register.masks ≡ masks_in (row_of chip (write_at load bytes n).register.position)
+    masked : (c : Cursor) → c.next < registers_of load → (write_from load bytes c).register.masks ≡ masks_in (row_of chip (write_from load bytes c).register.position)
     unfolding row_of
-    masked n h = by_ready (ready_at load (cursor_at load n)) refl
+    masked c h = by_ready (ready_at load c) refl
       where
         k : ℕ
-        k = (cursor_at load n).next
+        k = c.next
 
         register : Bool → Register
         register r =
-            (cond {A = Write} r (record { register = register_of load (cursor_at load n).next; byte = byte_at load bytes (cursor_at load n).next })
-            (record { register = (selector_in (sheet_of chip)).register; byte = bank_of load (cursor_at load n).next })).register
+            (cond {A = Write} r (record { register = register_of load c.next; byte = byte_at load bytes c.next })
+            (record { register = (selector_in (sheet_of chip)).register; byte = bank_of load c.next })).register
 
-        by_ready : (r : Bool) → ready_at load (cursor_at load n) ≡ r → (register r).masks ≡ masks_in (row_in (card_of chip) (register r).position)
+        by_ready : (r : Bool) → ready_at load c ≡ r → (register r).masks ≡ masks_in (row_in (card_of chip) (register r).position)
         by_ready true t =
-            let at = loaded_at (place_at load k) ∙ register_at_is chip plan.table (place_at load k) (inside k (load_short.turns n h)) in
+            let at = loaded_at (place_at load k) ∙ register_at_is chip plan.table (place_at load k) (inside k h) in
             ap (λ (r : Register). r.masks) at ∙ sym (ap (λ (r : Register). masks_in (row_in (card_of chip) r.position)) at)
         by_ready false t =
-            let at = selector_register (sheet_of chip) (banked (eqb (banks_of chip).bits 0) refl (sym (ap (λ (bits : ℕ). ready bits (cursor_at load n).bank (register_of load k).position) (selector_bits (sheet_of chip))) ∙ t)) in
+            let same = ap (λ (bits : ℕ). ready bits c.bank (register_of load k).position) (selector_bits (sheet_of chip)) in
+            let at = selector_register (sheet_of chip) (has_banks (banks_of chip).bits c.bank (register_of load k).position (sym same ∙ t)) in
             ap (λ (r : Register). r.masks) at ∙ sym (ap (λ (r : Register). masks_in (row_in (card_of chip) r.position)) at)
-          where
-            banked : (one : Bool) → eqb (banks_of chip).bits 0 ≡ one
-                → cond one true (eqb (cursor_at load n).bank ((register_of load (cursor_at load n).next).position / 256)) ≡ false → eqb (banks_of chip).bits 0 ≡ false
-            banked true e f = absurd (true≢false f)
-            banked false e f = e
 
     -- so what is made on an image is what the writes by position do
-    made_laid : (n : ℕ) → n ≤ writes_of load → (image : List ℕ) → made_of load bytes n image ≡ laid chip (pairs_of load bytes n) image
-    made_laid zero h image = refl
-    made_laid (suc n) h image =
-        let w = write_at load bytes n in
-        ap (λ (m : Masks). stored_at m w.register.position w.byte (made_of load bytes n image)) (masked n h)
-        ∙ ap (placed chip w.register.position w.byte) (made_laid n (omega arith) image)
-        ∙ sym (laid_append chip (pairs_of load bytes n) ((w.register.position, w.byte) ∷ []) image)
+    made_laid : (c : Cursor) (n : ℕ) → ((j : ℕ) → j < n → (cursor_at load c j).next < registers_of load) → (image : List ℕ)
+        → made_of (coming load bytes c n) image ≡ laid chip (map pair_of (coming load bytes c n)) image
+    made_laid c zero h image = refl
+    made_laid c (suc n) h image =
+        let w = write_from load bytes c in
+        ap (λ (m : Masks). made_of (coming load bytes (stepped load c) n) (stored_at m w.register.position w.byte image)) (masked c (h 0 (omega arith)))
+        ∙ made_laid (stepped load c) n (λ j less. h (suc j) (omega (arith, less))) (placed chip w.register.position w.byte image)
 
-    pub load_makes : (n : ℕ) → n ≤ writes_of load → (image : List ℕ) → made_of load bytes n image ≡ laid chip (take n (routed chip (placements chip plan))) image
-    load_makes n h image = made_laid n h image ∙ ap (λ (ws : List Pair). laid chip ws image) (load_pairs n h)
+    pub load_makes : (n : ℕ) → n ≤ writes_of load → (image : List ℕ)
+        → made_of (coming load bytes start n) image ≡ laid chip (take n (routed chip (placements chip plan))) image
+    load_makes n h image =
+        made_laid start n (λ j less. load_short.turns j (omega (arith, less, h))) image
+        ∙ ap (λ (ws : List Pair). laid chip ws image) (load_pairs n h)

@@ -1,35 +1,28 @@
--- A load's writes, made one after the other, are those of a list of writes with their selects: at each of them the rest of the list, with the bank that
--- is selected by then, is what is left.
+-- A load's writes, made one after the other, are those of a list of writes with their selects: at each cursor the rest of the list, with the bank that
+-- is selected there, is what is left.
 -- Assumes nothing.
 use Prim.Native.Nat.{ℕ, zero, suc, ◌+◌, ◌/◌, ◌≤◌, ◌<◌}
 use native.Mathlib.Numerals.{add-one}
 use native.Mathlib.Omega.{arith}
 use mathlib.Core.Path.{◌≡◌, refl, sym, ap, ap₂, subst, ◌∙◌}
-use mathlib.Core.Bool.{Bool, true, false, cond, true≢false}
-use mathlib.Core.List.{List, [], ◌∷◌, ◌++◌, map, append_assoc}
+use mathlib.Core.Bool.{Bool, true, false, cond}
+use mathlib.Core.List.{List, [], ◌∷◌, map}
 use borrow.Author.Tests.{eq-eqb, ltb-true, ltb-false}
 use lib.Dec.{eqb, ltb}
-use lib.ListN.{length, get_or, take, drop, length-append}
+use lib.ListN.{length, get_or, take, drop}
 use lib.Seq.{drop-cons}
 use Rattle.pages.specs.Banks.{Banks, no_bank, ready, selects_from}
 use Rattle.scripts.specs.declared.making.Cursor.{Cursor}
 use Rattle.scripts.specs.declared.making.Load.{Load}
 use Rattle.scripts.specs.declared.making.Write.{Write}
 use Rattle.scripts.specs.Scripts.{Pair, routed_from}
-use Rattle.scripts.specs.Making.{registers_of, writes_of, byte_at, register_of, bank_of, ready_at, cursor_at, write_at, pairs_of}
-use Rattle.scripts.proofs.Bus.{routed_length}
+use Rattle.scripts.specs.Making.{registers_of, writes_of, byte_at, register_of, bank_of, ready_at, stepped, write_from, start, cursor_at, coming, pair_of}
+use Rattle.scripts.proofs.Bus.{routed_length, has_banks}
 use Rattle.scripts.proofs.Pairs.{nothing}
 
-pub pairs_length : (l : Load) (bytes : List ℕ) (n : ℕ) → length (pairs_of l bytes n) ≡ n
-pairs_length l bytes zero = refl
-pairs_length l bytes (suc n) =
-    length-append (pairs_of l bytes n) (((write_at l bytes n).register.position, (write_at l bytes n).byte) ∷ [])
-    ∙ add-one (length (pairs_of l bytes n))
-    ∙ ap suc (pairs_length l bytes n)
-
-take_front : (xs ys : List Pair) (n : ℕ) → length xs ≡ n → take n (xs ++ ys) ≡ xs
-take_front [] ys n e = subst (λ (k : ℕ). take k ys ≡ []) e refl
-take_front (x ∷ xs) ys n e = subst (λ (k : ℕ). take k ((x ∷ xs) ++ ys) ≡ x ∷ xs) e (ap (λ (l : List Pair). x ∷ l) (take_front xs ys (length xs) refl))
+pub coming_length : (l : Load) (bytes : List ℕ) (c : Cursor) (n : ℕ) → length (coming l bytes c n) ≡ n
+coming_length l bytes c zero = refl
+coming_length l bytes c (suc n) = ap suc (coming_length l bytes (stepped l c) n)
 
 drop_none : (ws : List Pair) (n : ℕ) → length ws ≤ n → drop n ws ≡ []
 drop_none [] zero h = refl
@@ -52,27 +45,9 @@ module _ (l : Load) (bytes : List ℕ) (banks : Banks) (ws : List Pair) (d : Des
   pub walk_length : writes_of l ≡ length all
   walk_length = ap₂ ◌+◌ d.selects d.registers ∙ sym (routed_length banks no_bank ws)
 
-  -- what is left behind n writes
-  abbrev left : ℕ → List Pair
-  left n = routed_from banks (cursor_at l n).bank (drop (cursor_at l n).next ws)
-
-  abbrev Walked : ℕ → Type 0
-  Walked n = all ≡ pairs_of l bytes n ++ left n
-
-  -- where there is a write left, there is a register
-  register_left : (n : ℕ) → n < writes_of l → Walked n → (cursor_at l n).next < length ws
-  register_left n h e = by_place (ltb k (length ws)) refl
-    where
-      k : ℕ
-      k = (cursor_at l n).next
-
-      by_place : (there : Bool) → ltb k (length ws) ≡ there → k < length ws
-      by_place true t = ltb-true k (length ws) t
-      by_place false t =
-          let none : left n ≡ [] = ap (routed_from banks (cursor_at l n).bank) (drop_none ws k (ltb-false k (length ws) t)) in
-          let long : length all ≡ n + length (left n) =
-          ap length e ∙ length-append (pairs_of l bytes n) (left n) ∙ ap (λ (m : ℕ). m + length (left n)) (pairs_length l bytes n) in
-          absurd (omega (arith, walk_length, long, ap length none))
+  -- what is left at a cursor
+  abbrev left : Cursor → List Pair
+  left c = routed_from banks c.bank (drop c.next ws)
 
   -- a register whose bank is selected is ready
   ready_here : (p : ℕ) → ready banks.bits (p / 256) p ≡ true
@@ -82,33 +57,30 @@ module _ (l : Load) (bytes : List ℕ) (banks : Banks) (ws : List Pair) (d : Des
       by_bits true = refl
       by_bits false = eq-eqb (p / 256) (p / 256) refl
 
-  has_banks : (bank p : ℕ) → ready banks.bits bank p ≡ false → eqb banks.bits 0 ≡ false
-  has_banks bank p r = by_bits (eqb banks.bits 0) refl r
+  -- where there is a write left, there is a register, and the next write is the first of what is left
+  step : (c : Cursor) → 0 < length (left c) → (c.next < length ws) × (left c ≡ pair_of (write_from l bytes c) ∷ left (stepped l c))
+  step c h = (there, by_ready (ready_at l c) (sym same))
     where
-      by_bits : (one : Bool) → eqb banks.bits 0 ≡ one → cond one true (eqb bank (p / 256)) ≡ false → eqb banks.bits 0 ≡ false
-      by_bits true e s = absurd (true≢false s)
-      by_bits false e s = e
-
-  step : (n : ℕ) → n < writes_of l → Walked n → Walked (suc n)
-  step n h e = by_ready (ready_at l c) (sym same)
-    where
-      c : Cursor
-      c = cursor_at l n
-
       k : ℕ
-      k = (cursor_at l n).next
+      k = c.next
 
       p : ℕ
-      p = (register_of l (cursor_at l n).next).position
+      p = (register_of l c.next).position
 
       b : ℕ
-      b = byte_at l bytes (cursor_at l n).next
+      b = byte_at l bytes c.next
 
-      there : (cursor_at l n).next < length ws
-      there = register_left n h e
+      by_place : (inside : Bool) → ltb c.next (length ws) ≡ inside → c.next < length ws
+      by_place true t = ltb-true c.next (length ws) t
+      by_place false t =
+          let none : left c ≡ [] = ap (routed_from banks c.bank) (drop_none ws c.next (ltb-false c.next (length ws) t)) in
+          absurd (omega (arith, h, ap length none))
 
-      same : ready banks.bits (cursor_at l n).bank p ≡ ready_at l (cursor_at l n)
-      same = ap (λ (bits : ℕ). ready bits (cursor_at l n).bank p) (sym d.bits)
+      there : c.next < length ws
+      there = by_place (ltb c.next (length ws)) refl
+
+      same : ready banks.bits c.bank p ≡ ready_at l c
+      same = ap (λ (bits : ℕ). ready bits c.bank p) (sym d.bits)
 
       -- the next register, and those behind it
       next : drop k ws ≡ (p, b) ∷ drop (suc k) ws
@@ -117,37 +89,41 @@ module _ (l : Load) (bytes : List ℕ) (banks : Banks) (ws : List Pair) (d : Des
       rest : List Pair
       rest = routed_from banks (p / 256) (drop (suc k) ws)
 
-      opened : all ≡ pairs_of l bytes n ++ cond (ready banks.bits (cursor_at l n).bank p) ((p, b) ∷ rest) ((banks.select, p / 256) ∷ ((p, b) ∷ rest))
-      opened = e ∙ ap (λ (us : List Pair). pairs_of l bytes n ++ routed_from banks (cursor_at l n).bank us) next
+      opened : (r : Bool) → r ≡ ready banks.bits c.bank p → left c ≡ cond r ((p, b) ∷ rest) ((banks.select, p / 256) ∷ ((p, b) ∷ rest))
+      opened r e =
+          ap (routed_from banks c.bank) next
+          ∙ ap (λ (ready : Bool). cond ready ((p, b) ∷ rest) ((banks.select, p / 256) ∷ ((p, b) ∷ rest))) (sym e)
 
       write : Bool → Write
       write r = cond r (record { register = register_of l k; byte = b }) (record { register = l.selector.register; byte = bank_of l k })
 
-      by_ready : (r : Bool) → r ≡ ready banks.bits (cursor_at l n).bank p
-          → all ≡ (pairs_of l bytes n ++ (((write r).register.position, (write r).byte) ∷ [])) ++ routed_from banks (bank_of l k) (drop (cond r (k + 1) k) ws)
-      by_ready true r =
-          opened
-          ∙ ap (λ (ready : Bool). pairs_of l bytes n ++ cond ready ((p, b) ∷ rest) ((banks.select, p / 256) ∷ ((p, b) ∷ rest))) (sym r)
-          ∙ sym (append_assoc (pairs_of l bytes n) ((p, b) ∷ []) rest)
-          ∙ ap (λ (j : ℕ). (pairs_of l bytes n ++ ((p, b) ∷ [])) ++ routed_from banks (p / 256) (drop j ws)) (sym (add-one k))
+      by_ready : (r : Bool) → r ≡ ready banks.bits c.bank p
+          → left c ≡ pair_of (write r) ∷ routed_from banks (bank_of l k) (drop (cond r (k + 1) k) ws)
+      by_ready true r = opened true r ∙ ap (λ (j : ℕ). (p, b) ∷ routed_from banks (p / 256) (drop j ws)) (sym (add-one k))
       by_ready false r =
-          let banked = has_banks (cursor_at l n).bank p (sym r) in
+          let banked = has_banks banks.bits c.bank p (sym r) in
           let again : routed_from banks (p / 256) (drop k ws) ≡ (p, b) ∷ rest =
           ap (routed_from banks (p / 256)) next
           ∙ ap (λ (ready : Bool). cond ready ((p, b) ∷ rest) ((banks.select, p / 256) ∷ ((p, b) ∷ rest))) (ready_here p) in
-          opened
-          ∙ ap (λ (ready : Bool). pairs_of l bytes n ++ cond ready ((p, b) ∷ rest) ((banks.select, p / 256) ∷ ((p, b) ∷ rest))) (sym r)
-          ∙ ap (λ (at : ℕ). pairs_of l bytes n ++ ((at, p / 256) ∷ ((p, b) ∷ rest))) (sym (d.select banked))
-          ∙ sym (append_assoc (pairs_of l bytes n) ((l.selector.register.position, p / 256) ∷ []) ((p, b) ∷ rest))
-          ∙ ap (λ (us : List Pair). (pairs_of l bytes n ++ ((l.selector.register.position, p / 256) ∷ [])) ++ us) (sym again)
+          opened false r
+          ∙ ap₂ (λ (at : ℕ) (us : List Pair). (at, p / 256) ∷ us) (sym (d.select banked)) (sym again)
 
-  pub walk : (n : ℕ) → n ≤ writes_of l → Walked n
-  walk zero h = refl
-  walk (suc n) h = step n h (walk n (omega (arith, h)))
+  turns_from : (c : Cursor) (n : ℕ) → n < length (left c) → (cursor_at l c n).next < length ws
+  turns_from c zero h = (step c h).0
+  turns_from c (suc n) h =
+      turns_from (stepped l c) n (omega (arith, h, ap length (step c (omega (arith, h))).1))
 
-  pub walk_turns : (n : ℕ) → n < writes_of l → (cursor_at l n).next < registers_of l
-  walk_turns n h = subst (λ (m : ℕ). (cursor_at l n).next < m) (sym d.registers) (register_left n h (walk n (omega (arith, h))))
+  pairs_from : (c : Cursor) (n : ℕ) → n ≤ length (left c) → map pair_of (coming l bytes c n) ≡ take n (left c)
+  pairs_from c zero h = refl
+  pairs_from c (suc n) h =
+      let first = (step c (omega (arith, h))).1 in
+      ap (λ (us : List Pair). pair_of (write_from l bytes c) ∷ us) (pairs_from (stepped l c) n (omega (arith, h, ap length first)))
+      ∙ sym (ap (take (suc n)) first)
+
+  pub walk_turns : (n : ℕ) → n < writes_of l → (cursor_at l start n).next < registers_of l
+  walk_turns n h =
+      subst (λ (m : ℕ). (cursor_at l start n).next < m) (sym d.registers) (turns_from start n (omega (arith, h, walk_length)))
 
   -- the first n writes are the first of the list
-  pub walk_pairs : (n : ℕ) → n ≤ writes_of l → pairs_of l bytes n ≡ take n all
-  walk_pairs n h = sym (ap (take n) (walk n h) ∙ take_front (pairs_of l bytes n) (left n) n (pairs_length l bytes n))
+  pub walk_pairs : (n : ℕ) → n ≤ writes_of l → map pair_of (coming l bytes start n) ≡ take n all
+  walk_pairs n h = pairs_from start n (omega (arith, h, walk_length))

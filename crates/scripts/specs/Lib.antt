@@ -3,3 +3,4 @@ pub mod Played
 pub mod Promises
 pub mod Rules
 pub mod Making
+pub mod Left

@@ -1,7 +1,7 @@
 -- The contracts of the parts of `scripts`: how a plan's body, in register order behind the raised speeds, makes its writes.
 -- Assumes nothing.
-use Rattle.std.specs.Prelude.{ℕ, zero, suc, ◌+◌, ◌-◌, ◌*◌, ◌/◌, ◌^◌, ◌≤◌, ◌<◌, ◌≡◌, Bool, cond, List, [], ◌∷◌, ◌++◌, map, ltb, length, get_or, drop}
-use Rattle.refusal.specs.declared.Amount.{Amount}
+use Rattle.std.specs.Prelude.{ℕ, zero, suc, ◌+◌, ◌-◌, ◌*◌, ◌/◌, ◌^◌, ◌≤◌, ◌<◌, ◌≡◌, Bool, cond, List, [], ◌∷◌, ◌++◌, map, ltb, length, get_or, drop, Result}
+use Rattle.refusal.specs.declared.Refusal.{Refusal}
 use Rattle.refusal.specs.Answers.{tells_amount}
 use Rattle.refusal.specs.Checks.{told, left, room_checks}
 use Rattle.pages.specs.declared.Chip.{Chip}
@@ -57,30 +57,38 @@ write_from l bytes c =
 abbrev pub start : Cursor
 start = record { next = 0; bank = no_bank }
 
-abbrev pub cursor_at : Load → ℕ → Cursor
-cursor_at l zero = start
-cursor_at l (suc n) = stepped l (cursor_at l n)
+-- the cursor behind n more writes
+abbrev pub cursor_at : Load → Cursor → ℕ → Cursor
+cursor_at l c zero = c
+cursor_at l c (suc n) = cursor_at l (stepped l c) n
 
-abbrev pub write_at : Load → List ℕ → ℕ → Write
-write_at l bytes k = write_from l bytes (cursor_at l k)
+-- the next n writes
+abbrev pub coming : Load → List ℕ → Cursor → ℕ → List Write
+coming l bytes c zero = []
+coming l bytes c (suc n) = write_from l bytes c ∷ coming l bytes (stepped l c) n
 
--- the first n pairs of position and byte
-abbrev pub pairs_of : Load → List ℕ → ℕ → List Pair
-pairs_of l bytes zero = []
-pairs_of l bytes (suc n) = pairs_of l bytes n ++ (((write_at l bytes n).register.position, (write_at l bytes n).byte) ∷ [])
+-- all writes of a load
+abbrev pub all_writes : Load → List ℕ → List Write
+all_writes l bytes = coming l bytes start (writes_of l)
 
--- an image after the first n writes
-abbrev pub made_of : Load → List ℕ → ℕ → List ℕ → List ℕ
-made_of l bytes zero image = image
-made_of l bytes (suc n) image =
-    let write = write_at l bytes n in
-    stored_at write.register.masks write.register.position write.byte (made_of l bytes n image)
+-- a write's pair of position and byte
+abbrev pub pair_of : Write → Pair
+pair_of w = (w.register.position, w.byte)
+
+-- the bytes of some writes as the bus carries them
+abbrev pub sent : List Write → List ℕ
+sent ws = flat (map addressed (map pair_of ws))
+
+-- an image after some writes
+abbrev pub made_of : List Write → List ℕ → List ℕ
+made_of [] image = image
+made_of (w ∷ ws) image = made_of ws (stored_at w.register.masks w.register.position w.byte image)
 
 -- no more registers than the longest body has bytes, and as many selects as come between them, each of a bank whose number is a byte
 pub record Short (l : Load) : Type 0 where
   pub registers : l.settings + l.speeds ≤ longest
   pub selects : l.selects ≤ 2 * longest
-  pub turns : (n : ℕ) → n < writes_of l → (cursor_at l n).next < registers_of l
+  pub turns : (n : ℕ) → n < writes_of l → (cursor_at l start n).next < registers_of l
   pub banks : (k : ℕ) → bank_of l k < 2 ^ 8
 
 -- a plan's table of a chip ..
@@ -99,7 +107,7 @@ load_of chip plan =
 abbrev pub loaded_bytes : Chip → Plan → List ℕ
 loaded_bytes chip plan = column longest (λ k. get_or (body (planned_for chip plan)) k 0)
 
--- all pairs at the front of a buffer, or none
-pub record PutsPairs (l : Load) (bytes old : List ℕ) (r : Amount) (new : List ℕ) : Type 0 where
-  pub answer : tells_amount r ≡ told (room_checks (2 * writes_of l) old) (writes_of l)
-  pub pairs : new ≡ left (room_checks (2 * writes_of l) old) (flat (map addressed (pairs_of l bytes (writes_of l))) ++ drop (2 * writes_of l) old) old
+-- the pairs of some writes at the front of a buffer, or none
+pub record PutsPairs (ws : List Write) (old : List ℕ) (r : Result ℕ Refusal) (new : List ℕ) : Type 0 where
+  pub answer : tells_amount r ≡ told (room_checks (2 * length ws) old) (length ws)
+  pub pairs : new ≡ left (room_checks (2 * length ws) old) (sent ws ++ drop (2 * length ws) old) old

@@ -1,7 +1,7 @@
 -- What the calls of `scripts` check, in the paper's order, and promise.
 -- Assumes nothing.
-use Rattle.std.specs.Prelude.{ℕ, ◌*◌, min, ◌≡◌, List, ◌++◌, length, take, drop}
-use Rattle.refusal.specs.declared.Amount.{Amount}
+use Rattle.std.specs.Prelude.{ℕ, ◌*◌, min, ◌≡◌, List, ◌++◌, length, take, drop, Result}
+use Rattle.refusal.specs.declared.Refusal.{Refusal}
 use Rattle.refusal.specs.Answers.{tells_amount}
 use Rattle.refusal.specs.Checks.{Check, told, left, room_checks}
 use Rattle.pages.specs.declared.Chip.{Chip}
@@ -16,12 +16,12 @@ script_checks plan out = plan_checks plan ++ room_checks (2 * length (script_for
 
 -- what a call that writes a plan's script promises, by its own list of checks: "The answer says how many writes"; "An output longer than the
 -- result keeps its tail." ..
-pub record ScriptsBy (checks : List Check) (plan : Plan) (old : List ℕ) (r : Amount) (new : List ℕ) : Type 0 where
+pub record ScriptsBy (checks : List Check) (plan : Plan) (old : List ℕ) (r : Result ℕ Refusal) (new : List ℕ) : Type 0 where
   pub answer : tells_amount r ≡ told checks (length (script_for plan))
   pub bytes : new ≡ left checks (flat (script_for plan) ++ drop (2 * length (script_for plan)) old) old
 
 -- .. and so what `scripts::script` promises
-abbrev pub Scripts : Plan → List ℕ → Amount → List ℕ → Type 0
+abbrev pub Scripts : Plan → List ℕ → Result ℕ Refusal → List ℕ → Type 0
 Scripts plan old r new = ScriptsBy (script_checks plan old) plan old r new
 
 -- what `scripts::make` promises, which checks nothing: the first writes of a plan's script, as many as `count` says, "a number above the script's

@@ -1,8 +1,7 @@
 // What a script is made from. One rule serves every chip: raise the speeds, then write the body in register order, and select a bank before the first
 // write and wherever the next register lies in another bank.
-ghost use Rattle.std.specs.Prelude.{◌<◌, ◌≡◌, true, cond, eqb, length};
-ghost use Rattle.pages.specs.Sheets.{longest};
-ghost use Rattle.scripts.specs.Making.{Short, registers_of, writes_of, place_at, byte_at, stepped, write_from, load_of, loaded_bytes};
+ghost use Rattle.std.specs.Prelude.{ℕ, ◌<◌, ◌≡◌, true, cond, eqb, min};
+ghost use Rattle.scripts.specs.Making.{Short, registers_of, writes_of, place_at, byte_at, start, cursor_at, load_of, loaded_bytes};
 
 use bodies::LONGEST;
 use curves::Plan;
@@ -36,79 +35,107 @@ pub struct Cursor {
 // What is selected before the first write is not known.
 pub(crate) const START: Cursor = Cursor { next: 0, bank: 256 };
 
-// A write, and the cursor behind it.
-#[derive(Clone, Copy)]
-pub(crate) struct Turn {
-    pub write: Write,
+// The writes that are still to come: of which load, with which body's bytes, from where, and how many.
+#[derive(Drop)]
+pub struct Writes {
+    pub load: Load,
+    pub body: [u8; LONGEST],
     pub cursor: Cursor,
+    pub left: usize,
+    ghost short: { Short load },
+    ghost inside: { (n : ℕ) → n < left → (cursor_at load cursor n).next < registers_of load },
 }
 
-impl Load {
-    // How many writes there are.
-    pub(crate) fn length(self) -> usize
-        requires { Short self }
-        ensures { result ≡ writes_of self }
+impl Writes {
+    // All writes of a plan.
+    #[inline(always)]
+    pub(crate) fn of(chip: Chip, plan: Plan) -> Writes
+        ensures { (result.load ≡ load_of chip plan) × (result.body ≡ loaded_bytes chip plan) × (result.cursor ≡ start) × (result.left ≡ writes_of (load_of chip plan)) }
     {
-        self.selects + (self.speeds + (self.settings + self.speeds))
+        let load = load_of(chip, plan);
+        Writes {
+            load,
+            body: bytes_of(chip, plan),
+            cursor: START,
+            left: load.selects + (load.speeds + (load.settings + load.speeds)),
+        }
     }
 
-    // The table's register that is written k-th, by its place: the raised speeds, then all of them.
+    // The first of them, as many as `count` says, or all.
+    pub(crate) fn first(mut self, count: usize) -> Writes
+        ensures { (result.load ≡ self.load) × (result.body ≡ self.body) × (result.cursor ≡ self.cursor) × (result.left ≡ min count self.left) }
+    {
+        self.left = count.min(self.left);
+        self
+    }
+
+    // The table's register that is next, by its place: the raised speeds, then all of them.
     #[tactic(auto, unfolding(crate::specs::Making::place_at))]
-    fn place(self, k: usize) -> usize
-        requires { Short self }
-        ensures { result ≡ place_at self k }
+    fn place(&self) -> usize
+        requires { 0 < self.now.left }
+        ensures { result ≡ place_at self.now.load self.now.cursor.next }
     {
-        if k < self.speeds {
-            return self.settings + k;
+        let next = self.cursor.next;
+        if next < self.load.speeds {
+            return self.load.settings + next;
         }
-        k - self.speeds
+        next - self.load.speeds
     }
 
-    // The byte that it takes, from a plan's body.
+    // The byte that it takes.
     #[tactic(auto, unfolding(crate::specs::Making::byte_at))]
-    fn byte(self, body: &[u8], k: usize) -> u8
-        requires short { Short self }
-        requires body_len { length body.now ≡ longest }
-        requires k_bound { k < registers_of self }
-        ensures { result ≡ byte_at self body.now k }
+    fn byte(&self) -> u8
+        requires { 0 < self.now.left }
+        ensures { result ≡ byte_at self.now.load self.now.body self.now.cursor.next }
     {
-        if k < self.speeds {
-            return self.full;
+        let next = self.cursor.next;
+        if next < self.load.speeds {
+            return self.load.full;
         }
-        body[k - self.speeds]
+        self.body[next - self.load.speeds]
     }
+}
 
-    // The next write: the next register's, or a select of its bank before it.
-    pub(crate) fn turn(self, body: &[u8], cursor: Cursor) -> Turn
-        requires short { Short self }
-        requires body_len { length body.now ≡ longest }
-        requires next_bound { cursor.next < registers_of self }
-        ensures { (result.write ≡ write_from self body.now cursor) × (result.cursor ≡ stepped self cursor) }
-    {
-        let next = cursor.next;
-        let register = pages::register_at(self.stretches, self.place(next));
+// The next write is the next register's, or a select of its bank before it.
+impl Iterator for Writes {
+    type Item = Write;
+
+    ghost use Rattle.std.specs.Iterator.{YieldsFirst, item_count};
+    ghost use Rattle.scripts.specs.Left.{left_of};
+
+    ghost next_gives = { YieldsFirst left_of };
+
+    ghost remaining = { item_count left_of };
+
+    // Compiled into its loops: a call for each write costs as much again as the write.
+    #[inline(always)]
+    fn next(&mut self) -> Option<Write> {
+        if self.left == 0 {
+            return None;
+        }
+        let register = pages::register_at(self.load.stretches, self.place());
+        // A position is a usize of no bound, so that its bank is a quotient and no byte of a u16.
         let bank = register.position / 256;
-        let selector = self.selector;
+        let selector = self.load.selector;
+        let cursor = self.cursor;
         if is_ready(selector.bits, cursor.bank, bank) {
-            return Turn {
-                write: Write {
-                    register,
-                    byte: self.byte(body, next),
-                },
-                cursor: Cursor {
-                    next: next + 1,
-                    bank,
-                },
+            let byte = self.byte();
+            self.left -= 1;
+            self.cursor = Cursor {
+                next: cursor.next + 1,
+                bank,
             };
+            return Some(Write { register, byte });
         }
-        let select = selector.register;
-        Turn {
-            write: Write {
-                register: select,
-                byte: bank as u8,
-            },
-            cursor: Cursor { next, bank },
-        }
+        self.left -= 1;
+        self.cursor = Cursor {
+            next: cursor.next,
+            bank,
+        };
+        Some(Write {
+            register: selector.register,
+            byte: bank as u8,
+        })
     }
 }
 
@@ -127,12 +154,11 @@ pub(crate) fn load_of(chip: Chip, plan: Plan) -> Load
     ensures { result ≡ load_of chip plan }
 {
     let layout = cards::layout_of(chip, plan.table);
-    let shape = layout.shape;
     Load {
         stretches: cards::ground_of(chip, plan.table),
         settings: layout.settings,
         speeds: layout.speeds,
-        full: curves::full_of(shape),
+        full: curves::full_of(layout.shape),
         selector: cards::selector_of(chip),
         selects: layout.selects,
     }
@@ -143,6 +169,5 @@ pub(crate) fn bytes_of(chip: Chip, plan: Plan) -> [u8; LONGEST]
     ensures { result ≡ loaded_bytes chip plan }
 {
     let layout = cards::layout_of(chip, plan.table);
-    let shape = layout.shape;
-    bodies::body_of(shape, false, plan)
+    bodies::body_of(layout.shape, false, plan)
 }

@@ -1,38 +1,31 @@
 // A script's pairs in a lent buffer.
-ghost use Rattle.std.specs.Prelude.{◌+◌, ◌%◌, ◌<◌, ◌≡◌, length, set};
-ghost use Rattle.pages.specs.Sheets.{longest};
-ghost use Rattle.scripts.specs.Making.{Short, PutsPairs};
+ghost use Rattle.std.specs.Prelude.{◌+◌, ◌*◌, ◌%◌, ◌<◌, ◌≡◌, length, set};
+ghost use Rattle.scripts.specs.Left.{left_of};
+ghost use Rattle.scripts.specs.Making.{PutsPairs};
 
-use crate::making::{Load, START, Write};
-use refusal::{Amount, Refusal};
+use crate::making::{Write, Writes};
+use refusal::Refusal;
 
-// Puts a pair at a place of the buffer, and answers the place behind it. A register's address is its place in its bank's page.
-fn put(write: Write, out: &mut [u8], at: usize) -> usize
-    requires { at + 1 < length out.old }
-    ensures { (result ≡ at + 2) × (out.new ≡ set (set out.old at (write.register.position % 256)) (at + 1) write.byte) }
+// Puts the k-th pair. A register's address is its place in its bank's page: of a position of no bound a remainder, and no byte of a u16.
+fn put(write: Write, out: &mut [u8], k: usize)
+    requires { 2 * k + 1 < length out.old }
+    ensures { out.new ≡ set (set out.old (2 * k) (write.register.position % 256)) (2 * k + 1) write.byte }
 {
     let register = write.register;
-    out[at] = (register.position % 256) as u8;
-    out[at + 1] = write.byte;
-    at + 2
+    out[2 * k] = (register.position % 256) as u8;
+    out[2 * k + 1] = write.byte;
 }
 
-pub(crate) fn put_all(load: Load, body: &[u8], out: &mut [u8]) -> Amount
-    requires short { Short load }
-    requires body_len { length body.now ≡ longest }
-    ensures { PutsPairs load body.now out.old result out.new }
+pub(crate) fn put_all(writes: Writes, out: &mut [u8]) -> Result<usize, Refusal>
+    ensures { PutsPairs (left_of writes) out.old result out.new }
 {
-    let writes = load.length();
-    if out.len() < 2 * writes {
-        return Amount::Refused(Refusal::OutputTooShort);
+    let count = writes.left;
+    if out.len() / 2 < count {
+        return Err(Refusal::OutputTooShort);
     }
-    let mut at = 0;
-    let mut cursor = START;
-    for k in 0..writes {
-        let turn = load.turn(body, cursor);
-        let write = turn.write;
-        at = put(write, out, at);
-        cursor = turn.cursor;
+    // By place, since behind `chunks_exact_mut` a proof knows the buffer's length and none of its bytes.
+    for (k, write) in writes.enumerate() {
+        put(write, out, k);
     }
-    Amount::Of(writes)
+    Ok(count)
 }

@@ -1,6 +1,7 @@
 -- What a host engineer relies on, of a chip's state: calls in turn are a run, a read of a status register acknowledges and clears, a status bit stays on
 -- until its register is read or the chip reset, and a chip without status registers carries the watch.
 -- Assumes nothing.
+use Rattle.std.specs.Prelude.{Option, Some, None}
 use Prim.Native.Nat.{ℕ, ◌^◌, ◌<◌}
 use native.Mathlib.Omega.{arith}
 use mathlib.Core.Path.{◌≡◌, refl, sym, ap, ap₂, subst, ◌∙◌}
@@ -14,8 +15,6 @@ use lib.Seq.{get_or-set_same, get_or-set_other}
 use Rattle.refusal.specs.Checks.{Check, first, left}
 use Rattle.pages.specs.declared.Chip.{Chip}
 use Rattle.pages.specs.declared.Chip.TheVariants.{Nct80}
-use Rattle.pages.specs.declared.Named.{Named}
-use Rattle.pages.specs.declared.Named.TheVariants.{Known, Unknown}
 use Rattle.pages.specs.Banks.{among}
 use Rattle.pages.specs.Rows.{every}
 use Rattle.pages.specs.Cards.{sheet_of, chip_of, when_known, row_of, is_status, power_on}
@@ -69,15 +68,15 @@ called chip old (write address byte) new (r, (p, w)) =
     by_checks (image_checks chip old.image) (left_of chip (λ c. after_write c address byte) old.image old.watch) old
     (p.bytes ∙ ap (λ (l : List ℕ). left (image_checks chip old.image) l old.image) (image_of (chip_of chip))) (sym w ∙ watch_of_is (chip_of chip) (eqb (first (image_checks chip old.image)) 0))
   where
-    image_of : (n : Named) → when_known n (λ c. written c address byte old.image) old.image ≡ (when_known n (λ c. after_write c address byte old) old).image
-    image_of (Known c) = refl
-    image_of Unknown = refl
+    image_of : (n : Option Chip) → when_known n (λ c. written c address byte old.image) old.image ≡ (when_known n (λ c. after_write c address byte old) old).image
+    image_of (Some c) = refl
+    image_of None = refl
 
-    watch_of_is : (n : Named) (b : Bool) → old.watch ≡ cond b (when_known n (λ c. after_write c address byte old) old).watch old.watch
-    watch_of_is (Known c) true = refl
-    watch_of_is (Known c) false = refl
-    watch_of_is Unknown true = refl
-    watch_of_is Unknown false = refl
+    watch_of_is : (n : Option Chip) (b : Bool) → old.watch ≡ cond b (when_known n (λ c. after_write c address byte old) old).watch old.watch
+    watch_of_is (Some c) true = refl
+    watch_of_is (Some c) false = refl
+    watch_of_is None true = refl
+    watch_of_is None false = refl
 called chip old reset new (r, (p, w)) =
     by_checks (image_checks chip old.image) (left_of chip after_reset old.image old.watch) old p.bytes (sym w ∙ ap (λ t. t.1) p.answer)
 

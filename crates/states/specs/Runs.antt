@@ -1,18 +1,17 @@
 -- "A run of samples, reads and resets is the single steps in turn", and writes with them: what calls on one state leave, each made on the image and the
 -- watch that the one before left.
 -- Assumes nothing.
-use Rattle.std.specs.Prelude.{ℕ, ◌≡◌, cond, List, [], ◌∷◌, eqb, ℤ}
-use Rattle.refusal.specs.declared.Outcome.{Outcome}
+use Rattle.std.specs.Prelude.{ℕ, ◌≡◌, cond, List, [], ◌∷◌, eqb, ℤ, Result, ⊤}
+use Rattle.refusal.specs.declared.Refusal.{Refusal}
 use Rattle.refusal.specs.Checks.{Check, first}
 use Rattle.pages.specs.declared.Chip.{Chip}
 use Rattle.images.specs.Bytes.{written}
 use Rattle.images.specs.Promises.{image_checks, WritesByte}
-use Rattle.watch.specs.declared.Sampled.{Sampled}
+use Rattle.watch.specs.declared.Watch.{Watch}
+use Rattle.watch.specs.declared.Refused.{Refused}
 use Rattle.watch.specs.Promises.{tells_sampled}
 use Rattle.channels.specs.Channels.{State, sampled}
 use Rattle.channels.specs.Promises.{channel_checks, SamplesChannels}
-use Rattle.states.specs.declared.ByteRead.{ByteRead}
-use Rattle.states.specs.declared.ChipReset.{ChipReset}
 use Rattle.states.specs.States.{after_read, after_reset}
 use Rattle.states.specs.Promises.{tells_byte, tells_reset, left_of, ReadsByte, ResetsChip}
 
@@ -49,11 +48,11 @@ run chip state (e ∷ es) = run chip (after chip state e) es
 -- a call of the library that does an event, on one state and with another left
 abbrev pub Called : ℕ → State → Event → State → Type 0
 Called chip old (sample steps words) new =
-    (r : Sampled) × (SamplesChannels old.image old.watch steps words r new.image × ((tells_sampled r).1 ≡ new.watch))
+    (r : Result Watch Refused) × (SamplesChannels old.image old.watch steps words r new.image × ((tells_sampled r).1 ≡ new.watch))
 Called chip old (read address) new =
-    (r : ByteRead) × (ReadsByte chip old.image address old.watch r new.image × ((tells_byte r).1.1 ≡ new.watch))
-Called chip old (write address byte) new = (r : Outcome) × (WritesByte chip old.image address byte r new.image × (old.watch ≡ new.watch))
-Called chip old reset new = (r : ChipReset) × (ResetsChip chip old.image old.watch r new.image × ((tells_reset r).1 ≡ new.watch))
+    (r : Result (ℕ × Watch) Refused) × (ReadsByte chip old.image address old.watch r new.image × ((tells_byte r).1.1 ≡ new.watch))
+Called chip old (write address byte) new = (r : Result ⊤ Refusal) × (WritesByte chip old.image address byte r new.image × (old.watch ≡ new.watch))
+Called chip old reset new = (r : Result Watch Refused) × (ResetsChip chip old.image old.watch r new.image × ((tells_reset r).1 ≡ new.watch))
 
 -- such calls one after the other
 abbrev pub CalledInTurn : ℕ → State → List Event → State → Type 0

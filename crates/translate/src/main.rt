@@ -1,35 +1,27 @@
 // Translates plan records on standard input to the text of their scripts on standard output. What the text is, the crate `translation` says.
 #![tactic(auto)]
 
-ghost use Rattle.std.specs.Prelude.{◌≤◌, length};
-ghost use Rattle.refusal.specs.declared.Amount.TheVariants.{Of};
+ghost use Rattle.std.specs.Prelude.{◌≤◌, length, Ok};
 ghost use Rattle.translation.specs.Promises.{Translates};
 ghost use Rattle.translate.specs.Inputs.{Holds};
 
-use refusal::Amount;
+use std::io;
 use std::io::{Read, Stdin};
 
-#[derive(Clone, Copy)]
-enum Input {
-    Bytes(usize),
-    Failed,
-}
-
-// Fills the buffer until the input ends or the buffer is full, however the bytes arrive.
-fn read_all(mut input: Stdin, buffer: &mut [u8]) -> Input
+// Fills the buffer until the input ends or the buffer is full, however the bytes arrive. A loop by hand: `read_exact` tells no count, and
+// `read_to_end` wants a heap.
+fn read_all(mut input: Stdin, buffer: &mut [u8]) -> io::Result<usize>
     ensures { Holds buffer.new result }
 {
     let mut filled = 0;
     while filled < buffer.len() {
-        let Ok(more) = input.read(&mut buffer[filled..]) else {
-            return Input::Failed;
-        };
+        let more = input.read(&mut buffer[filled..])?;
         if more == 0 {
-            return Input::Bytes(filled);
+            break;
         }
         filled += more;
     }
-    Input::Bytes(filled)
+    Ok(filled)
 }
 
 // Where standard error takes no words either, there is nobody left to tell.
@@ -40,12 +32,9 @@ fn say(rt: HostRuntime, words: &[u8]) {
 // No text is longer than 40,979 bytes, so none is refused: it stands at the front of the buffer.
 fn text_of(input: &[u8], buffer: &mut [u8]) -> usize
     requires { 40979 ≤ length buffer.old }
-    ensures { Translates input.now buffer.old (Of result) buffer.new }
+    ensures { Translates input.now buffer.old (Ok result) buffer.new }
 {
-    match translation::translate(input, buffer) {
-        Amount::Of(length) => length,
-        Amount::Refused(_) => 0,
-    }
+    translation::translate(input, buffer).unwrap()
 }
 
 fn translated(rt: HostRuntime, input: &[u8]) {
@@ -60,7 +49,7 @@ fn translated(rt: HostRuntime, input: &[u8]) {
 fn main(rt: HostRuntime) {
     let mut input = [0u8; 4097];
     match read_all(rt.stdin(), &mut input) {
-        Input::Failed => say(rt, b"translate: standard input cannot be read\n"),
-        Input::Bytes(length) => translated(rt, &input[..length]),
+        Ok(length) => translated(rt, &input[..length]),
+        Err(_) => say(rt, b"translate: standard input cannot be read\n"),
     }
 }

@@ -1,13 +1,20 @@
--- Adding texts to a buffer: one text behind another is added as one, and a text is added byte by byte.
+-- Adding texts to an output: one text behind another is added as one, and of a text that reaches past the buffer's end the front is written.
 -- Assumes nothing.
-use Prim.Native.Nat.{ℕ, suc, ◌+◌, ◌≤◌, ◌<◌}
+use Prim.Native.Nat.{ℕ, suc, ◌+◌, ◌-◌, ◌≤◌, min}
 use native.Mathlib.Nat.{add-zero}
-use native.Mathlib.Numerals.{add-one}
 use native.Mathlib.Omega.{arith}
 use mathlib.Core.Path.{◌≡◌, refl, sym, ap, ap₂, subst, ◌∙◌}
-use mathlib.Core.List.{List, [], ◌∷◌, ◌++◌}
-use lib.ListN.{length, get_or, take, set, length-append}
-use lib.Seq.{sets, length-sets, length-take-le, take-suc, take_all}
+use mathlib.Core.Bool.{Bool, true, false}
+use mathlib.Core.List.{List, [], ◌∷◌, ◌++◌, append-nil, append_assoc}
+use borrow.Author.Tests.{leb-true, leb-false}
+use borrow.Rule.Slice.PartMut.{put_mid}
+use lib.Dec.{leb}
+use lib.ListN.{length, take, drop, set, length-append}
+use lib.Seq.{sets, sets-eq, length-sets, length-take-le, take_all, drop-drop}
+use Rattle.std.proofs.lemmas.List.{set_past, take-append-drop, drop_all}
+use Rattle.translation.specs.declared.output.Output.{Output}
+use Rattle.translation.specs.Words.{ascii}
+use Rattle.translation.specs.Text.{line}
 use Rattle.translation.specs.Parts.{Adds}
 
 sets_append : (old s t : List ℕ) (at : ℕ) → sets (sets old at s) (at + length s) t ≡ sets old at (s ++ t)
@@ -16,48 +23,70 @@ sets_append old (x ∷ s) t at =
     let past : at + suc (length s) ≡ suc at + length s = omega arith in
     ap (λ (n : ℕ). sets (sets (set old at x) (suc at) s) n t) past ∙ sets_append (set old at x) s t (suc at)
 
-pub adds_none : (old : List ℕ) (at : ℕ) → Adds [] old at at old
-adds_none old at = record { next = sym (add-zero at); bytes = refl }
+pub adds_none : (output : Output) → Adds [] output output
+adds_none output = record { same = refl; next = sym (add-zero output.length); bytes = refl }
 
-pub adds_then : {s t old mid new : List ℕ} {at r q : ℕ} → Adds s old at r mid → Adds t mid r q new → Adds (s ++ t) old at q new
-adds_then {s} {t} {old} {mid} {new} {at} {r} {q} a b =
+pub adds_then : {s t : List ℕ} {before mid after : Output} → Adds s before mid → Adds t mid after → Adds (s ++ t) before after
+adds_then {s} {t} {before} {mid} {after} a b =
     record {
+      same = b.same ∙ a.same;
       next = omega (arith, length-append s t, a.next, b.next);
-      bytes = b.bytes ∙ ap₂ (λ (l : List ℕ) (n : ℕ). sets l n t) a.bytes a.next ∙ sets_append old s t at;
+      bytes = b.bytes ∙ ap₂ (λ (l : List ℕ) (n : ℕ). sets l n t) a.bytes a.next ∙ sets_append before.buffer.now s t before.length;
     }
 
-pub adds_length : {s old new : List ℕ} {at r : ℕ} → Adds s old at r new → length new ≡ length old
-adds_length {s} {old} {new} {at} a = ap length a.bytes ∙ length-sets old at s
+pub adds_as : {s t : List ℕ} {before after : Output} → s ≡ t → Adds s before after → Adds t before after
+adds_as {s} {t} {before} {after} e a = subst (λ (text : List ℕ). Adds text before after) e a
 
-pub adds_as : {s t old new : List ℕ} {at r : ℕ} → s ≡ t → Adds s old at r new → Adds t old at r new
-adds_as {s} {t} {old} {new} {at} {r} e a = subst (λ (text : List ℕ). Adds text old at r new) e a
+-- a text, and what is left of its line
+pub adds_line : (s t : List ℕ) {before mid after : Output} → Adds s before mid → Adds (line t) mid after → Adds (line (s ++ t)) before after
+adds_line s t a b = adds_as (sym (append_assoc s t (ascii "\n"))) (adds_then a b)
 
--- a turn of the loop that adds a text byte by byte
-pub record Added (text old out : List ℕ) (at k : ℕ) : Type 0 where
-  pub within : k ≤ length text
-  pub same : out ≡ sets old at (take k text)
+-- past the buffer's end nothing is written
+sets_past : (text old : List ℕ) (at : ℕ) → length old ≤ at → sets old at text ≡ old
+sets_past [] old at h = refl
+sets_past (x ∷ text) old at h =
+    ap (λ (l : List ℕ). sets l (suc at) text) (set_past old at x h) ∙ sets_past text old (suc at) (omega arith)
 
-pub added_none : (text old : List ℕ) (at : ℕ) → Added text old old at 0
-added_none text old at = record { within = omega arith; same = refl }
+-- what reaches past it is left out
+sets_front : (old text : List ℕ) (at fits : ℕ) → at ≤ length old → fits ≡ min (length text) (length old - at) → sets old at text ≡ sets old at (take fits text)
+sets_front old text at fits h e = by_length (leb (length text) fits) refl
+  where
+    front : List ℕ
+    front = take fits text
 
-module _ {text old out : List ℕ} {at k : ℕ} (a : Added text old out at k) where
-  pub added_length : length out ≡ length old
-  added_length = ap length a.same ∙ length-sets old at (take k text)
+    long : length front ≡ fits
+    long = length-take-le fits text (omega arith)
 
-  pub added_more : {byte r : ℕ} {new : List ℕ} → k < length text → byte ≡ get_or text k 0 → Adds (byte ∷ []) out (at + k) r new
-      → Added text old new at (k + 1)
-  added_more {byte} {r} {new} h e b =
-      let long : k ≡ length (take k text) = sym (length-take-le k text a.within) in
-      record {
-        within = omega arith;
-        same =
-            b.bytes
-            ∙ ap₂ (λ (l : List ℕ) (n : ℕ). sets l (at + n) (byte ∷ [])) a.same long
-            ∙ sets_append old (take k text) (byte ∷ []) at
-            ∙ ap (λ (v : ℕ). sets old at (take k text ++ (v ∷ []))) e
-            ∙ ap (sets old at) (sym (take-suc text k 0 h))
-            ∙ ap (λ (n : ℕ). sets old at (take n text)) (sym (add-one k));
-      }
+    by_length : (all : Bool) → leb (length text) fits ≡ all → sets old at text ≡ sets old at front
+    by_length true t = ap (sets old at) (sym (take_all fits text (leb-true (length text) fits t)))
+    by_length false t =
+        let some = leb-false (length text) fits t in
+        ap (sets old at) (sym (take-append-drop fits text))
+        ∙ sym (sets_append old front (drop fits text) at)
+        ∙ sets_past (drop fits text) (sets old at front) (at + length front) (omega (arith, long, length-sets old at front))
 
-  pub added_all : {r : ℕ} → length text ≤ k → r ≡ at + length text → Adds text old at r out
-  added_all {r} h e = record { next = e; bytes = a.same ∙ ap (sets old at) (take_all k text h) }
+-- so the part that fits is the text where it fits
+pub copied : (old text : List ℕ) (at start fits : ℕ) → start ≡ min at (length old) → fits ≡ min (length text) (length old - start)
+    → put_mid start fits old (take fits text) ≡ sets old at text
+copied old text at start fits s f = by_place (leb at (length old)) refl
+  where
+    front : List ℕ
+    front = take fits text
+
+    by_place : (inside : Bool) → leb at (length old) ≡ inside → put_mid start fits old front ≡ sets old at text
+    by_place true t =
+        let h = leb-true at (length old) t in
+        let same : start ≡ at = omega arith in
+        let long : length front ≡ fits = length-take-le fits text (omega arith) in
+        ap (λ (n : ℕ). put_mid n fits old front) same
+        ∙ ap (λ (l : List ℕ). take at old ++ (front ++ l)) (drop-drop fits at old ∙ ap (λ (n : ℕ). drop (at + n) old) (sym long))
+        ∙ sym (sets-eq front old at (omega arith) ∙ append_assoc (take at old) front (drop (at + length front) old))
+        ∙ sym (sets_front old text at fits h (f ∙ ap (λ (n : ℕ). min (length text) (length old - n)) same))
+    by_place false t =
+        let past = leb-false at (length old) t in
+        let none : fits ≡ 0 = omega arith in
+        let last : start ≡ length old = omega arith in
+        ap₂ (λ (m n : ℕ). put_mid m n old (take n text)) last none
+        ∙ ap₂ (λ (l m : List ℕ). l ++ m) (take_all (length old) old (omega arith)) (drop_all (length old) old (omega arith))
+        ∙ append-nil old
+        ∙ sym (sets_past text old at (omega arith))

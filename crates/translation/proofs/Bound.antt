@@ -44,11 +44,11 @@ plan_short number bytes {used} {plan} h a =
     )
 
 -- the first of some checks whose numbers lie below a limit
-abbrev below : ℕ → List Check → Bool
+abbrev pub below : ℕ → List Check → Bool
 below limit [] = ltb 0 limit
 below limit (c ∷ cs) = ltb c.1 limit && below limit cs
 
-first_below : (limit : ℕ) (checks : List Check) → So (below limit checks) → first checks < limit
+pub first_below : (limit : ℕ) (checks : List Check) → So (below limit checks) → first checks < limit
 first_below limit [] t = ltb-true 0 limit t
 first_below limit ((applies, number) ∷ checks) t = by_check applies (first_below limit checks both.1)
   where

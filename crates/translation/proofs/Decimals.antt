@@ -1,58 +1,61 @@
--- Numbers in decimal: a number is its digits but the last, and the last, whatever steps are given; and how many digits there are.
+-- Numbers in decimal are what the libraries print, and so they have few digits.
 -- Assumes nothing.
-use Prim.Native.Nat.{ℕ, zero, suc, ◌+◌, ◌*◌, ◌/◌, ◌%◌, ◌≤◌, ◌<◌}
+use Prim.Native.Nat.{ℕ, zero, suc, ◌+◌, ◌/◌, ◌%◌, ◌^◌, ◌≤◌, ◌<◌}
 use native.Mathlib.Nat.{not-suc-le-zero}
 use native.Mathlib.Omega.{arith}
-use mathlib.Core.Path.{◌≡◌, refl, sym, ap}
-use mathlib.Core.Bool.{Bool, true, false, cond}
+use mathlib.Core.Path.{◌≡◌, refl, sym, ap, ◌∙◌}
+use mathlib.Core.Bool.{Bool, true, false, So, ◌&&◌, and-eq-true_iff}
 use mathlib.Core.List.{List, [], ◌∷◌, ◌++◌}
-use borrow.Author.Tests.{ltb-true, ltb-false, lt-ltb, le-ltb}
-use lib.Dec.{ltb}
-use lib.ListN.{length, length-append}
+use borrow.Author.Tests.{ltb-true, ltb-false, lt-ltb, le-ltb, eqb-true, eqb-false}
+use lib.Dec.{eqb, ltb}
+use lib.ListN.{length}
+use Rattle.std.specs.Fmt.{decimal as Fmt·decimal}
+use Rattle.std.proofs.lemmas.Fmt.{AppendsLastDigit, decimal_digit, decimal_step, decimal_from_appends, length-decimal-le, length-decimal-le_succ}
 use Rattle.translation.specs.Words.{digit, decimal_in, decimal}
 
--- as many steps as the number says are enough, and more make no difference
-steps_enough : (m n k : ℕ) → k ≤ m → k ≤ n → decimal_in m k ≡ decimal_in n k
-steps_enough zero zero k h l = refl
-steps_enough zero (suc n) k h l = sym (rw (lt-ltb k 10 (omega arith)))
-steps_enough (suc m) zero k h l = rw (lt-ltb k 10 (omega arith))
-steps_enough (suc m) (suc n) k h l =
-    ap (λ (front : List ℕ). cond (ltb k 10) (digit k ∷ []) (front ++ (digit (k % 10) ∷ [])))
-    (steps_enough m n (k / 10) (omega arith) (omega arith))
+-- the digits 0 to 9 are the characters from 30h on
+abbrev are_digits : ℕ → Bool
+are_digits zero = true
+are_digits (suc d) = eqb (digit d) (48 + d) && are_digits d
 
-pub decimal_small : (n : ℕ) → n < 10 → decimal n ≡ digit n ∷ []
-unfolding decimal
-decimal_small zero h = refl
-decimal_small (suc n) h = rw (lt-ltb (suc n) 10 h)
+digit_below : (n : ℕ) → So (are_digits n) → (d : ℕ) → d < n → digit d ≡ 48 + d
+digit_below zero t d h = absurd (not-suc-le-zero h)
+digit_below (suc n) t d h =
+    let both = (and-eq-true_iff (eqb (digit n) (48 + n)) (are_digits n)).0 t in
+    by_place (eqb-true (digit n) (48 + n) both.0) (digit_below n both.1 d) (eqb d n) refl
+  where
+    by_place : digit n ≡ 48 + n → (d < n → digit d ≡ 48 + d) → (last : Bool) → eqb d n ≡ last → digit d ≡ 48 + d
+    by_place here below true e = rw (eqb-true d n e) here
+    by_place here below false e = below (omega (arith, eqb-false d n e))
 
-pub decimal_large : (n : ℕ) → 10 ≤ n → decimal n ≡ decimal (n / 10) ++ (digit (n % 10) ∷ [])
+digit_is : (d : ℕ) → d < 10 → digit d ≡ 48 + d
+digit_is d h = digit_below 10 refl d h
+
+appends : AppendsLastDigit decimal_in
+appends = record {
+  one = λ k n h. rw (lt-ltb n 10 h) (ap (λ (d : ℕ). d ∷ []) (digit_is n h));
+  more = λ k n h. rw (le-ltb n 10 h) (ap (λ (d : ℕ). decimal_in k (n / 10) ++ (d ∷ [])) (digit_is (n % 10) (omega arith)));
+}
+
+pub printed : (n : ℕ) → n < 2 ^ 64 → decimal n ≡ Fmt·decimal n
 unfolding decimal
-decimal_large zero h = absurd (not-suc-le-zero h)
-decimal_large (suc n) h =
-    rw (le-ltb (suc n) 10 h)
-    (ap (λ (front : List ℕ). front ++ (digit (suc n % 10) ∷ []))
-    (steps_enough n (suc n / 10) (suc n / 10) (omega arith) (omega arith)))
+printed zero h = sym (decimal_digit 0 (omega arith))
+printed (suc m) h = by_size (ltb (suc m) 10) refl
+  where
+    by_size : (small : Bool) → ltb (suc m) 10 ≡ small → decimal_in (suc m) (suc m) ≡ Fmt·decimal (suc m)
+    by_size true t =
+        let small = ltb-true (suc m) 10 t in
+        appends.one m (suc m) small ∙ sym (decimal_digit (suc m) small)
+    by_size false t =
+        let large = ltb-false (suc m) 10 t in
+        let front = decimal_from_appends decimal_in appends m (suc m / 10) (omega arith) (omega (arith, length-decimal-le_succ (suc m / 10) (omega arith))) in
+        appends.more m (suc m) large ∙ ap (λ (l : List ℕ). l ++ ((48 + suc m % 10) ∷ [])) front ∙ sym (decimal_step (suc m) large h)
 
 pub one_digit : (n : ℕ) → n < 10 → length (decimal n) ≤ 1
-one_digit n h = omega (arith, ap length (decimal_small n h))
-
--- ten times as many numbers have at most one digit more
-one_more : (limit most : ℕ) → ((n : ℕ) → n < limit → length (decimal n) ≤ most) → (n : ℕ) → n < 10 * limit → length (decimal n) ≤ most + 1
-one_more limit most fewer n h = by_size (ltb n 10) refl
-  where
-    by_size : (small : Bool) → ltb n 10 ≡ small → length (decimal n) ≤ most + 1
-    by_size true t = omega (arith, one_digit n (ltb-true n 10 t))
-    by_size false t =
-        let front = fewer (n / 10) (omega arith) in
-        omega (
-          arith,
-          front,
-          ap length (decimal_large n (ltb-false n 10 t)),
-          length-append (decimal (n / 10)) (digit (n % 10) ∷ []),
-        )
+one_digit n h = rw (printed n (omega arith)) (length-decimal-le 1 n (omega arith) h (omega arith))
 
 pub two_digits : (n : ℕ) → n < 100 → length (decimal n) ≤ 2
-two_digits n h = one_more 10 1 one_digit n h
+two_digits n h = rw (printed n (omega arith)) (length-decimal-le 2 n (omega arith) h (omega arith))
 
 pub three_digits : (n : ℕ) → n < 1000 → length (decimal n) ≤ 3
-three_digits n h = one_more 100 2 two_digits n h
+three_digits n h = rw (printed n (omega arith)) (length-decimal-le 3 n (omega arith) h (omega arith))

@@ -36,25 +36,25 @@ turns_enough (suc m) (suc n) plans bytes h l =
     by_check go false t = rw t
 
 -- the text of the bytes left behind some plans
-abbrev pub rest : ℕ → List ℕ → List ℕ
-rest plans bytes = text_from (length bytes) plans bytes
+abbrev pub text_left : ℕ → List ℕ → List ℕ
+text_left plans bytes = text_from (length bytes) plans bytes
 
 -- "when no byte is left"
-pub rest_end : (plans : ℕ) (bytes : List ℕ) → length bytes ≡ 0 → rest plans bytes ≡ end_line plans
-rest_end plans [] h = refl
-rest_end plans (b ∷ bytes) h = absurd (omega arith)
+pub ends : (plans : ℕ) (bytes : List ℕ) → length bytes ≡ 0 → text_left plans bytes ≡ end_line plans
+ends plans [] h = refl
+ends plans (b ∷ bytes) h = absurd (omega arith)
 
 -- "At a refusal"
-pub rest_refused : (plans : ℕ) (bytes : List ℕ) → 0 < length bytes → 0 < refusal_in bytes → rest plans bytes ≡ refused_line (plans + 1) (refusal_in bytes)
-rest_refused plans [] h r = absurd (omega arith)
-rest_refused plans (b ∷ bytes) h r =
+pub refuses : (plans : ℕ) (bytes : List ℕ) → 0 < length bytes → 0 < refusal_in bytes → text_left plans bytes ≡ refused_line (plans + 1) (refusal_in bytes)
+refuses plans [] h r = absurd (omega arith)
+refuses plans (b ∷ bytes) h r =
     rw (ne_eqb (length (b ∷ bytes)) 0 (λ e. omega arith), ne_eqb (refusal_in (b ∷ bytes)) 0 (λ e. omega arith))
 
 -- a plan, and what is left behind its record
-pub rest_plan : (plans : ℕ) (bytes : List ℕ) → 0 < length bytes → refusal_in bytes ≡ 0
-    → rest plans bytes ≡ plan_text (plans + 1) (plan_in bytes) ++ rest (plans + 1) (drop (used_in bytes) bytes)
-rest_plan plans [] h e = absurd (omega arith)
-rest_plan plans (b ∷ bytes) h e =
+pub goes_on : (plans : ℕ) (bytes : List ℕ) → 0 < length bytes → refusal_in bytes ≡ 0
+    → text_left plans bytes ≡ plan_text (plans + 1) (plan_in bytes) ++ text_left (plans + 1) (drop (used_in bytes) bytes)
+goes_on plans [] h e = absurd (omega arith)
+goes_on plans (b ∷ bytes) h e =
     let left = drop (used_in (b ∷ bytes)) (b ∷ bytes) in
     let fewer = shorter (b ∷ bytes) e in
     rw (ne_eqb (length (b ∷ bytes)) 0 (λ z. omega arith), eq-eqb (refusal_in (b ∷ bytes)) 0 e)

@@ -1,15 +1,18 @@
 -- The lines of a script's writes: six bytes each, one behind the other.
 -- Assumes nothing.
-use Prim.Native.Nat.{ℕ, zero, suc, ◌+◌, ◌*◌, ◌≤◌, ◌<◌}
+use Prim.Native.Nat.{ℕ, ◌+◌, ◌*◌, ◌<◌}
 use native.Mathlib.Numerals.{add-one}
 use native.Mathlib.Omega.{arith}
 use mathlib.Core.Path.{◌≡◌, refl, sym, ap, ◌∙◌}
-use mathlib.Core.List.{List, [], ◌∷◌, ◌++◌, append_assoc}
-use lib.ListN.{length, get_or, length-append}
-use Rattle.scripts.specs.Scripts.{Pair, pairs_in}
+use mathlib.Core.List.{List, [], ◌∷◌, ◌++◌, append-nil, append_assoc}
+use lib.ListN.{length, get_or, take}
+use lib.Seq.{take-suc, length-take-le}
+use Rattle.std.proofs.lemmas.List.{map-append, length-map}
+use Rattle.scripts.specs.Scripts.{Pair}
+use Rattle.translation.specs.declared.output.Output.{Output}
 use Rattle.translation.specs.Text.{write_line, write_lines}
-use Rattle.translation.specs.Parts.{Adds}
-use Rattle.translation.proofs.Adding.{adds_none, adds_then, adds_as}
+use Rattle.translation.specs.Parts.{InRange, Adds, writes_of}
+use Rattle.translation.proofs.Adding.{adds_then, adds_as}
 
 lines_append : (xs ys : List Pair) → write_lines (xs ++ ys) ≡ write_lines xs ++ write_lines ys
 lines_append [] ys = refl
@@ -20,39 +23,32 @@ pub lines_length : (ws : List Pair) → length (write_lines ws) ≡ 6 * length w
 lines_length [] = refl
 lines_length (w ∷ ws) = omega (arith, lines_length ws)
 
-pairs_length : (n : ℕ) (bytes : List ℕ) → length (pairs_in n bytes) ≡ n
-pairs_length zero bytes = refl
-pairs_length (suc n) bytes =
-    length-append (pairs_in n bytes) ((get_or bytes (2 * n) 0, get_or bytes (2 * n + 1) 0) ∷ [])
-    ∙ add-one (length (pairs_in n bytes))
-    ∙ ap suc (pairs_length n bytes)
+-- the lines of the first writes, with that of one more
+module _ (script : List (List ℕ)) (k : ℕ) (h : k < length script) where
+  abbrev pub line : List ℕ
+  line = write_line (get_or (get_or script k []) 0 0, get_or (get_or script k []) 1 0)
 
-pub shown_length : (n : ℕ) (bytes : List ℕ) → length (write_lines (pairs_in n bytes)) ≡ 6 * n
-shown_length n bytes = lines_length (pairs_in n bytes) ∙ ap (λ (k : ℕ). 6 * k) (pairs_length n bytes)
+  one_more : write_lines (writes_of (take k script)) ++ line ≡ write_lines (writes_of (take (k + 1) script))
+  one_more =
+      let last : List (List ℕ) = get_or script k [] ∷ [] in
+      ap (λ (l : List ℕ). write_lines (writes_of (take k script)) ++ l) (sym (append-nil line))
+      ∙ sym (lines_append (writes_of (take k script)) (writes_of last))
+      ∙ ap write_lines (sym (map-append _ (take k script) last) ∙ ap writes_of (sym (take-suc script k [] h) ∙ ap (λ (n : ℕ). take n script) (sym (add-one k))))
 
--- the lines of the first k pairs are added, and the answer so far is the place behind them
-pub record Shown (pairs old out : List ℕ) (count at next k : ℕ) : Type 0 where
-  pub within : k ≤ count
-  pub front : Adds (write_lines (pairs_in k pairs)) old at next out
+  pub line_within : {before after : Output} → InRange (write_lines (writes_of script)) before
+      → Adds (write_lines (writes_of (take k script))) before after → InRange line after
+  line_within {before} w a =
+      omega (
+        arith,
+        a.next,
+        w,
+        lines_length (writes_of script),
+        lines_length (writes_of (take k script)),
+        length-map {B = Pair} script (λ (w : List ℕ). (get_or w 0 0, get_or w 1 0)),
+        length-map {B = Pair} (take k script) (λ (w : List ℕ). (get_or w 0 0, get_or w 1 0)),
+        length-take-le k script (omega arith),
+      )
 
-pub shown_none : (pairs old : List ℕ) (count at : ℕ) → Shown pairs old old count at at 0
-shown_none pairs old count at = record { within = omega arith; front = adds_none old at }
-
-pub shown_more : {pairs old out new : List ℕ} {count at next k r : ℕ} → Shown pairs old out count at next k → k < count
-    → Adds (write_line (get_or pairs (2 * k) 0, get_or pairs (2 * k + 1) 0)) out next r new
-    → Shown pairs old new count at r (k + 1)
-shown_more {pairs} {old} {out} {new} {count} {at} {next} {k} {r} s h a =
-    record {
-      within = omega arith;
-      front =
-          adds_as
-          (sym (lines_append (pairs_in k pairs) ((get_or pairs (2 * k) 0, get_or pairs (2 * k + 1) 0) ∷ []))
-          ∙ ap (λ (n : ℕ). write_lines (pairs_in n pairs)) (sym (add-one k)))
-          (adds_then s.front a);
-    }
-
-pub shown_all : {pairs old out : List ℕ} {count at next k : ℕ} → Shown pairs old out count at next k → count ≤ k
-    → Adds (write_lines (pairs_in count pairs)) old at next out
-shown_all {pairs} {old} {out} {count} {at} {next} {k} s h =
-    let all : k ≡ count = omega (arith, s.within) in
-    adds_as (ap (λ (n : ℕ). write_lines (pairs_in n pairs)) all) s.front
+  pub line_added : {before mid after : Output} → Adds (write_lines (writes_of (take k script))) before mid → Adds line mid after
+      → Adds (write_lines (writes_of (take (k + 1) script))) before after
+  line_added a b = adds_as one_more (adds_then a b)

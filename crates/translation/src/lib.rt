@@ -2,68 +2,74 @@
 #![tactic(auto)]
 
 mod lines;
-mod numbers;
 mod output;
 
 ghost use Rattle.std.specs.Prelude.{◌≤◌, ◌≡◌, leb, length};
+ghost use Rattle.std.proofs.lemmas.List.Edits.{sets};
 ghost use Rattle.translation.specs.Text.{plan_text, text_from, text_of};
 ghost use Rattle.translation.specs.Promises.{Translates};
 ghost use Rattle.translation.specs.Parts.{InRange, Adds, Printable};
 
+use crate::output::Output;
 use curves::Plan;
-use refusal::{Amount, Refusal};
+use refusal::Refusal;
 
 // An accepted plan's header and script. No script has more than 25 writes, so 50 bytes hold each, and none is refused.
-fn plan_lines(out: &mut [u8], at: usize, number: usize, plan: Plan) -> usize
+fn plan_lines(output: &mut Output<'_>, number: usize, plan: Plan)
     requires printable { Printable plan }
-    requires in_range { InRange at (plan_text number plan) }
-    ensures { Adds (plan_text number plan) out.old at result out.new }
+    requires in_range { InRange (plan_text number plan) output.old }
+    ensures { Adds (plan_text number plan) output.old output.new }
 {
-    let mut pairs = [0u8; 50];
-    let Amount::Of(writes) = scripts::script(plan, &mut pairs) else {
-        return at;
+    let mut bytes = [0u8; 50];
+    let Ok(writes) = scripts::script(plan, &mut bytes) else {
+        return;
     };
-    let next = lines::header(out, at, number, plan.chip, plan.table, writes);
-    lines::writes(out, next, &pairs, writes)
+    let (script, _) = bytes.as_chunks::<2>();
+    lines::header(output, number, plan.chip, plan.table, writes);
+    lines::writes(output, &script[..writes]);
 }
 
 // The lines of the records in at most 4,096 bytes.
-fn record_lines(input: &[u8], out: &mut [u8]) -> usize
-    requires { length input.now ≤ 4096 }
-    ensures { Adds (text_from (length input.now) 0 input.now) out.old 0 result out.new }
+fn record_lines(input: &[u8], output: &mut Output<'_>)
+    requires short { length input.now ≤ 4096 }
+    requires in_range { output.old.length ≡ 0 }
+    ensures { Adds (text_from (length input.now) 0 input.now) output.old output.new }
 {
-    let mut at = 0;
-    let mut from = 0;
+    let mut rest = input;
     let mut plans = 0;
-    while from < input.len() {
-        let found = records::read(&input[from..]);
-        let answer = found.answer;
-        let plan = found.plan;
-        match answer {
-            Amount::Refused(refusal) => return lines::refused(
-                out,
-                at,
-                plans + 1,
-                refusal::number(refusal),
-            ),
-            Amount::Of(used) => {
-                at = plan_lines(out, at, plans + 1, plan);
-                from += used;
-                plans += 1;
+    while !rest.is_empty() {
+        plans += 1;
+        let found = records::read(rest);
+        match found.answer {
+            Err(refusal) => return lines::refused(output, plans, u8::from(refusal)),
+            Ok(used) => {
+                plan_lines(output, plans, found.plan);
+                (_, rest) = rest.split_at(used);
             }
         }
     }
-    lines::end(out, at, plans)
+    lines::end(output, plans)
 }
 
 #[tactic(auto, using(crate::proofs::WrittenOut::longer))]
-fn all_lines(input: &[u8], out: &mut [u8]) -> usize
-    ensures { Adds (text_of input.now) out.old 0 result out.new }
+fn all_lines(input: &[u8], output: &mut Output<'_>)
+    requires { output.old.length ≡ 0 }
+    ensures { Adds (text_of input.now) output.old output.new }
 {
     if 4096 < input.len() {
-        return output::append(out, 0, b"input too long\n");
+        return output.append(b"input too long\n");
     }
-    record_lines(input, out)
+    record_lines(input, output)
+}
+
+// The length of an input's text, which stands in the buffer as far as that reaches.
+fn put(input: &[u8], out: &mut [u8]) -> usize
+    ensures length { result ≡ length (text_of input.now) }
+    ensures bytes { out.new ≡ sets out.old 0 (text_of input.now) }
+{
+    let mut output = Output::new(out);
+    all_lines(input, &mut output);
+    output.length()
 }
 
 // No text is longer.
@@ -78,15 +84,15 @@ fn has_room(input: &[u8], room: usize) -> bool
         return true;
     }
     let mut nowhere = [0u8; 0];
-    all_lines(input, &mut nowhere) <= room
+    put(input, &mut nowhere) <= room
 }
 
 // Writes the text of an input to the front of the buffer, and answers its length.
-pub fn translate(input: &[u8], out: &mut [u8]) -> Amount
+pub fn translate(input: &[u8], out: &mut [u8]) -> Result<usize, Refusal>
     ensures { Translates input.now out.old result out.new }
 {
     if !has_room(input, out.len()) {
-        return Amount::Refused(Refusal::OutputTooShort);
+        return Err(Refusal::OutputTooShort);
     }
-    Amount::Of(all_lines(input, out))
+    Ok(put(input, out))
 }

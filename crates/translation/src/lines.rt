@@ -1,83 +1,72 @@
 // The lines of a text.
-ghost use Rattle.std.specs.Prelude.{◌*◌, ◌/◌, ◌%◌, ◌≤◌, ◌≡◌, length};
-ghost use Rattle.scripts.specs.Scripts.{pairs_in};
-ghost use Rattle.translation.specs.Words.{digit};
+ghost use Rattle.std.specs.Prelude.{◌≡◌, length};
+ghost use Rattle.translation.specs.Words.{hexadecimal};
 ghost use Rattle.translation.specs.Text.{header_line, write_line, write_lines, refused_line, end_line};
-ghost use Rattle.translation.specs.Parts.{InRange, Adds};
+ghost use Rattle.translation.specs.Parts.{InRange, Adds, writes_of};
 
-use crate::{numbers, output};
+use crate::output::Output;
 
-pub(crate) fn header(
-    out: &mut [u8],
-    at: usize,
-    number: usize,
-    chip: u8,
-    table: u8,
-    writes: usize,
-) -> usize
-    requires { InRange at (header_line number chip table writes) }
-    ensures { Adds (header_line number chip table writes) out.old at result out.new }
+pub(crate) fn header(output: &mut Output<'_>, number: usize, chip: u8, table: u8, writes: usize)
+    requires { InRange (header_line number chip table writes) output.old }
+    ensures { Adds (header_line number chip table writes) output.old output.new }
 {
-    let a = numbers::field(out, at, b"plan ", number);
-    let b = numbers::field(out, a, b" chip ", chip as usize);
-    let c = numbers::field(out, b, b" table ", table as usize);
-    let d = numbers::field(out, c, b" writes ", writes);
-    output::put(out, d, b'\n')
+    output.field(b"plan ", number);
+    output.field(b" chip ", usize::from(chip));
+    output.field(b" table ", usize::from(table));
+    output.last_field(b" writes ", writes);
 }
 
-fn high(byte: u8) -> u8
-    ensures { result ≡ digit (byte / 16) }
+// A table by hand: `{:02X}` goes through a `Formatter`, and no contract of std rules out that it answers an error.
+const DIGITS: [u8; 16] = *b"0123456789ABCDEF";
+
+fn hexadecimal(byte: u8) -> [u8; 2]
+    ensures { result ≡ hexadecimal byte }
 {
-    numbers::digit(byte as usize / 16)
+    [
+        DIGITS[usize::from(byte / 16)],
+        DIGITS[usize::from(byte % 16)],
+    ]
 }
 
-fn low(byte: u8) -> u8
-    ensures { result ≡ digit (byte % 16) }
+// As one array, since each piece of a text costs a call of the library's copy.
+fn write_line(address: u8, byte: u8) -> [u8; 6]
+    ensures { result ≡ write_line (address, byte) }
 {
-    numbers::digit(byte as usize % 16)
+    let [high, low] = hexadecimal(address);
+    let [first, second] = hexadecimal(byte);
+    [high, low, b' ', first, second, b'\n']
 }
 
-fn write(out: &mut [u8], at: usize, address: u8, byte: u8) -> usize
-    requires { InRange at (write_line (address, byte)) }
-    ensures { Adds (write_line (address, byte)) out.old at result out.new }
+fn write(output: &mut Output<'_>, address: u8, byte: u8)
+    requires { InRange (write_line (address, byte)) output.old }
+    ensures { Adds (write_line (address, byte)) output.old output.new }
 {
-    let line = [
-        high(address),
-        low(address),
-        b' ',
-        high(byte),
-        low(byte),
-        b'\n',
-    ];
-    output::append(out, at, &line)
+    output.append(&write_line(address, byte));
 }
 
-// The first writes of a script, whose bytes stand address first.
-pub(crate) fn writes(out: &mut [u8], at: usize, pairs: &[u8], count: usize) -> usize
-    requires count_in_bounds { 2 * count ≤ length pairs.now }
-    requires in_range { InRange at (write_lines (pairs_in count pairs.now)) }
-    ensures { Adds (write_lines (pairs_in count pairs.now)) out.old at result out.new }
+// A line for each write, an address and its byte.
+pub(crate) fn writes(output: &mut Output<'_>, script: &[[u8; 2]])
+    requires { InRange (write_lines (writes_of script.now)) output.old }
+    ensures { Adds (write_lines (writes_of script.now)) output.old output.new }
 {
-    let mut next = at;
-    for k in 0..count {
-        next = write(out, next, pairs[2 * k], pairs[2 * k + 1]);
+    for &[address, byte] in script {
+        write(output, address, byte);
     }
-    next
 }
 
-pub(crate) fn refused(out: &mut [u8], at: usize, number: usize, refusal: u8) -> usize
-    requires { InRange at (refused_line number refusal) }
-    ensures { Adds (refused_line number refusal) out.old at result out.new }
+#[tactic(auto, unfolding(crate::specs::Text::refused_line))]
+pub(crate) fn refused(output: &mut Output<'_>, number: usize, refusal: u8)
+    requires { InRange (refused_line number refusal) output.old }
+    ensures { Adds (refused_line number refusal) output.old output.new }
 {
-    let a = numbers::field(out, at, b"plan ", number);
-    let b = numbers::field(out, a, b" refused ", refusal as usize);
-    output::put(out, b, b'\n')
+    output.field(b"plan ", number);
+    output.last_field(b" refused ", usize::from(refusal));
 }
 
-pub(crate) fn end(out: &mut [u8], at: usize, plans: usize) -> usize
-    requires { InRange at (end_line plans) }
-    ensures { Adds (end_line plans) out.old at result out.new }
+#[tactic(auto, unfolding(crate::specs::Text::end_line))]
+pub(crate) fn end(output: &mut Output<'_>, plans: usize)
+    requires { InRange (end_line plans) output.old }
+    ensures { Adds (end_line plans) output.old output.new }
 {
-    let a = numbers::field(out, at, b"end ", plans);
-    output::put(out, a, b'\n')
+    output.last_field(b"end ", plans);
 }

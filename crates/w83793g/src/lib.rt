@@ -14,9 +14,10 @@ ghost use Rattle.pages.specs.W83793g.{card};
 ghost use Rattle.pages.specs.Rows.{row_in, mask_of, stretch};
 ghost use Rattle.pages.specs.Promises.{Finds, PowersOn, Requires, Stands, Lays, Positions};
 
-use pages::{Fan, Ground, Layout, Masks, NO_GROUND, NOTHING, Required, Shape, Stretch};
+use pages::{Ground, Layout, Masks, NO_GROUND, NOTHING, Required, Shape, Stretch};
 
-// A bank at a time.
+// A bank at a time, and a match for each column: a column that is handed to one function for both is built on the stack at each use, all banks of it
+// (docs/PERFORMANCE.md). A position is 256 times the bank plus the address, of which `to_be_bytes` would make eight bytes.
 fn writable(bank: usize, address: usize) -> u8
     requires { address < 256 }
     ensures { result ≡ (row_in card (bank * 256 + address)).writable }
@@ -62,10 +63,7 @@ pub fn position(bank: u8, address: u8) -> usize
     ensures { Positions W83793g bank address result }
 {
     match address {
-        0x00 => 0x00,
-        0x0D => 0x0D,
-        0x0E => 0x0E,
-        0x0F => 0x0F,
+        0x00 | 0x0D | 0x0E | 0x0F => address as usize,
         _ => bank as usize * 256 + address as usize,
     }
 }
@@ -145,11 +143,11 @@ pub fn ground(number: u8) -> Ground
 
 // Critical stands in bank 0 and the rest in bank 2: a script selects bank 2, bank 0 before critical, and bank 2 again.
 #[tactic(auto, using(pages::proofs::Tables::laid_first, pages::proofs::Tables::none_laid), unfolding(pages::specs::Cards::sheet_of, pages::specs::W83793g::card, pages::specs::W83793gBank0::bank, pages::specs::W83793gBank1::bank, pages::specs::W83793gBank2::bank))]
-pub fn table(number: u8) -> Fan
+pub fn table(number: u8) -> Option<Layout>
     ensures { Lays W83793g number result }
 {
     match number {
-        1..=6 => Fan::Laid(Layout {
+        1..=6 => Some(Layout {
             settings: 8,
             speeds: 7,
             shape: Shape::Slope(7, 63),
@@ -158,6 +156,6 @@ pub fn table(number: u8) -> Fan
             leading: false,
             counted: true,
         }),
-        _ => Fan::Nothing,
+        _ => None,
     }
 }

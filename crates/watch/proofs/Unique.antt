@@ -1,5 +1,7 @@
 -- No second answer meets a contract of `watch`: what an answer tells determines it, since an accepted sample tells 0 and no refusal's number is 0.
 -- Assumes nothing.
+use Rattle.std.specs.Prelude.{Result, Ok, Err}
+use Rattle.refusal.specs.declared.Refusal.{Refusal}
 use Prim.Native.Nat.{ℕ}
 use mathlib.Core.Path.{◌≡◌, sym, ap, ap₂, ◌∙◌}
 use mathlib.Core.Bool.{Bool}
@@ -8,21 +10,22 @@ use lib.IntN.{ℤ}
 use Rattle.refusal.proofs.Numbers.{number_of_injective, not_accepted}
 use Rattle.watch.specs.declared.Behaviour.{Behaviour}
 use Rattle.watch.specs.declared.Watch.{Watch}
-use Rattle.watch.specs.declared.Sampled.{Sampled}
-use Rattle.watch.specs.declared.Sampled.TheVariants.{Taken, Refused}
+use Rattle.watch.specs.declared.Refused.{Refused}
 use Rattle.watch.specs.Promises.{tells_sampled, Starts, Samples, Acknowledges, Shows, Runs}
 
-pub tells_injective : (a b : Sampled) → tells_sampled a ≡ tells_sampled b → a ≡ b
-tells_injective (Taken v) (Taken w) e = ap (λ (t : ℕ × Watch). Taken t.1) e
-tells_injective (Taken v) (Refused s w) e = absurd (not_accepted s (ap (λ (t : ℕ × Watch). t.0) e))
-tells_injective (Refused r v) (Taken w) e = absurd (not_accepted r (sym (ap (λ (t : ℕ × Watch). t.0) e)))
-tells_injective (Refused r v) (Refused s w) e =
-    ap₂ Refused (number_of_injective r s (ap (λ (t : ℕ × Watch). t.0) e)) (ap (λ (t : ℕ × Watch). t.1) e)
+pub tells_injective : (a b : Result Watch Refused) → tells_sampled a ≡ tells_sampled b → a ≡ b
+tells_injective (Ok v) (Ok w) e = ap (λ (t : ℕ × Watch). Ok t.1) e
+tells_injective (Ok v) (Err s) e = absurd (not_accepted s.refusal (ap (λ (t : ℕ × Watch). t.0) e))
+tells_injective (Err r) (Ok w) e = absurd (not_accepted r.refusal (sym (ap (λ (t : ℕ × Watch). t.0) e)))
+tells_injective (Err r) (Err s) e =
+    ap₂ (λ (refusal : Refusal) (watch : Watch). Err (record { refusal = refusal; watch = watch }))
+    (number_of_injective r.refusal s.refusal (ap (λ (t : ℕ × Watch). t.0) e))
+    (ap (λ (t : ℕ × Watch). t.1) e)
 
 pub starts_unique : {behaviour : Behaviour} {r s : Watch} → Starts behaviour r → Starts behaviour s → r ≡ s
 starts_unique p q = p.answer ∙ sym q.answer
 
-pub samples_unique : {watch : Watch} {steps high hysteresis : ℤ} {r s : Sampled} → Samples watch steps high hysteresis r → Samples watch steps high hysteresis s → r ≡ s
+pub samples_unique : {watch : Watch} {steps high hysteresis : ℤ} {r s : Result Watch Refused} → Samples watch steps high hysteresis r → Samples watch steps high hysteresis s → r ≡ s
 samples_unique {r} {s} p q = tells_injective r s (p.answer ∙ sym q.answer)
 
 pub acknowledges_unique : {watch r s : Watch} → Acknowledges watch r → Acknowledges watch s → r ≡ s

@@ -23,11 +23,11 @@ pub struct Watch {
     pub pending: bool,
 }
 
-// A watch that took a sample, or why it did not, with the watch as it was.
+// Why a call was refused, and the watch, which comes back unchanged.
 #[derive(Clone, Copy)]
-pub enum Sampled {
-    Taken(Watch),
-    Refused(Refusal, Watch),
+pub struct Refused {
+    pub refusal: Refusal,
+    pub watch: Watch,
 }
 
 // Whether a number of steps is one of 12 bits.
@@ -68,6 +68,7 @@ fn pending_after(behaviour: Behaviour, was: bool, hot: bool, pending: bool) -> b
     }
 }
 
+// The limits are two numbers in each call, as C hands them in.
 impl Watch {
     // Both facts are off at first.
     pub fn new(behaviour: Behaviour) -> Watch
@@ -81,19 +82,19 @@ impl Watch {
     }
 
     // A sample of 12 bits, with its limits in whole degrees. Any other number of steps is refused and changes neither fact.
-    pub fn sample(mut self, steps: i16, high: i8, hysteresis: i8) -> Sampled
+    pub fn sample(mut self, steps: i16, high: i8, hysteresis: i8) -> Result<Watch, Refused>
         ensures { Samples self steps high hysteresis result }
     {
         if !is_sample(steps) {
-            return Sampled::Refused(Refusal::StepsDoNotFit, self);
+            return Err(Refused {
+                refusal: Refusal::StepsDoNotFit,
+                watch: self,
+            });
         }
-        let behaviour = self.behaviour;
-        let was = self.hot;
-        let hot = hot_after(was, steps, high, hysteresis);
-        let pending = pending_after(behaviour, was, hot, self.pending);
+        let hot = hot_after(self.hot, steps, high, hysteresis);
+        self.pending = pending_after(self.behaviour, self.hot, hot, self.pending);
         self.hot = hot;
-        self.pending = pending;
-        Sampled::Taken(self)
+        Ok(self)
     }
 
     // Pending goes off, and hot stays.
@@ -108,8 +109,7 @@ impl Watch {
     pub fn output(self) -> bool
         ensures { Shows self result }
     {
-        let behaviour = self.behaviour;
-        match behaviour {
+        match self.behaviour {
             Behaviour::Default => self.pending,
             Behaviour::OneTime => self.pending,
             Behaviour::Comparator => self.hot,
@@ -121,8 +121,8 @@ impl Watch {
         ensures { result ≡ after self (sample steps high hysteresis) }
     {
         match self.sample(steps, high, hysteresis) {
-            Sampled::Taken(watch) => watch,
-            Sampled::Refused(_, watch) => watch,
+            Ok(watch) => watch,
+            Err(refused) => refused.watch,
         }
     }
 
@@ -130,11 +130,8 @@ impl Watch {
     pub fn run(mut self, samples: &[i16], high: i8, hysteresis: i8) -> Watch
         ensures { Runs self samples.now high hysteresis result }
     {
-        let mut i = 0;
-        while i < samples.len() {
-            let steps = samples[i];
-            self = self.after(steps, high, hysteresis);
-            i += 1;
+        for steps in samples {
+            self = self.after(*steps, high, hysteresis);
         }
         self
     }

@@ -7,7 +7,6 @@ use lib.ListN.{length-map, get_or-eq_default}
 use Rattle.pages.specs.Rows.{from, with_masks, no_register}
 use Rattle.pages.proofs.Columns.{run_length, run_at}
 use Rattle.pages.proofs.Every.{map_at}
-use borrow.Author.Rules.{rules}
 use Rattle.pages.proofs.in_a_row.Goals as goal
 
 pub returns-then-stretch-k : goal.returns-then-stretch-k

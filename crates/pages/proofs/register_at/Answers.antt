@@ -2,7 +2,7 @@
 -- Assumes nothing.
 use Prim.Native.Nat.{ℕ, ◌+◌, ◌-◌, ◌≤◌, ◌<◌}
 use native.Mathlib.Omega.{arith}
-use mathlib.Core.List.{List, ◌++◌, map}
+use mathlib.Core.List.{List, ◌++◌}
 use mathlib.Core.Path.{◌≡◌, sym, ap, ◌∙◌}
 use lib.ListN.{length, get_or, length-map, get_or-append}
 use lib.Seq.{get_or-append-add}
@@ -10,7 +10,6 @@ use Rattle.pages.specs.declared.Register.{Register}
 use Rattle.pages.specs.declared.Stretch.{Stretch}
 use Rattle.pages.specs.Rows.{from, with_masks, spread, no_register}
 use Rattle.pages.proofs.Columns.{run_length}
-use borrow.Author.Rules.{rules}
 use Rattle.pages.proofs.register_at.Goals as goal
 
 spread-length : (r : Stretch) → length (spread r) ≡ r.count

@@ -1,7 +1,7 @@
 -- `plans::asked_of_image` meets its contract: each answer knows the chip, the table and how long the image is; the registers' bits ask what they do.
 -- Assumes nothing.
 use Prim.Native.Nat.{ℕ}
-use mathlib.Core.Path.{◌≡◌, refl, sym, ap, ◌∙◌}
+use mathlib.Core.Path.{◌≡◌, ap, ◌∙◌}
 use mathlib.Core.Bool.{false}
 use borrow.Author.Tests.{eq-eqb}
 use Rattle.pages.specs.declared.Layout.{Layout}
@@ -11,28 +11,28 @@ use Rattle.pages.specs.Rows.{column, stands_at}
 use Rattle.pages.specs.Sheets.{longest, register_in}
 use Rattle.pages.specs.Cards.{sheet_of}
 use Rattle.pages.proofs.Tables.{table_ground}
-use Rattle.cards.proofs.Told.{table_found}
 use Rattle.curves.specs.declared.Plan.{Plan}
 use Rattle.curves.specs.Planned.{planned, asks}
 use Rattle.bodies.specs.Bodies.{decoded}
 use Rattle.plans.specs.Parts.{worth_at}
 use Rattle.plans.proofs.Registers.{registers_ask}
+use Rattle.plans.proofs.Looked.{chip_found, table_found}
 use Rattle.plans.proofs.asked_of_image.Goals as goal
 
-pub returns-else-image-sizes : goal.returns-else-image-sizes
-returns-else-image-sizes c =
+pub returns : goal.returns
+returns c =
     let a = c.args in
-    let known = c.in-Known.known in
-    let found = table_found _ c.in-Laid.ensures refl in
-    let long = ap (λ (z : Sizes). z.image) c.sizes_of-sizes.ensures.answer in
-    let shape = c.in-Laid.layout.shape in
+    let known = c.in_ok-known.known in
+    let found = table_found c.table_of.ensures c.in_ok-layout.ensures.value in
+    let long = ap (λ (z : Sizes). z.image) c.sizes_of.ensures.answer in
+    let shape = c.in_ok-layout.layout.shape in
     let bytes = column longest (λ k. worth_at (register_in (sheet_of known) a.table k) a.image.now) in
-    let there = ap stands_at c.ground_of-stretches.ensures.answer ∙ table_ground known a.table in
+    let there = ap stands_at c.ground_of.ensures.answer ∙ table_ground known a.table in
     let held = c.held-body.ensures ∙ ap (λ (at : ℕ → Register). column longest (λ k. worth_at (at k) a.image.now)) there in
     let plan : c.plan_of-plan.result ≡ decoded false shape a.chip a.table 0 bytes =
     c.plan_of-plan.ensures.answer ∙ ap (decoded false shape a.chip a.table 0) held in
     record {
-      answer = rw (sym c.in-Known.ensures.answer, found.0, eq-eqb _ _ (c.if-image-sizes.false ∙ long))
+      answer = rw (chip_found c.in_ok-known.ensures, found.0, eq-eqb _ _ (c.if-image-sizes_of.false ∙ long))
           (ap (λ (speed : ℕ). (0, speed))
           (c.speed_of.ensures.answer
           ∙ ap (λ (p : Plan). asks shape (planned shape p) a.t) plan

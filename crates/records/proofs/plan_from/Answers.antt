@@ -13,16 +13,16 @@ use Rattle.records.proofs.plan_from.Goals as goal
 pub plan_by-requires : goal.plan_by-requires
 plan_by-requires c =
     let a = c.args in
-    let H = looked_has a.chip a.table c.in-Laid.layout c.in-Laid.ensures in
+    let H = looked_has a.chip a.table c.in-Ok.layout c.in-Ok.ensures in
     subst (λ (l : Layout). l.settings + l.speeds ≤ longest) (sym H.laid) (registers_short H.chip a.table)
 
-pub returns-in-Refused : goal.returns-in-Refused
-returns-in-Refused c =
+pub returns-in-Err : goal.returns-in-Err
+returns-in-Err c =
     let a = c.args in
     plan_refused _ _ _ c.refused.ensures
-    (looked_refused a.chip a.table _ (fill_checks a.chip a.table a.bytes.now) c.in-Refused.ensures)
+    (looked_refused a.chip a.table _ (fill_checks a.chip a.table a.bytes.now) c.in-Err.ensures)
 
-pub returns-in-Laid : goal.returns-in-Laid
-returns-in-Laid c =
+pub returns-in-Ok : goal.returns-in-Ok
+returns-in-Ok c =
     let a = c.args in
-    taken_by _ _ _ (looked_has a.chip a.table c.in-Laid.layout c.in-Laid.ensures) _ _ c.plan_by.ensures
+    taken_by _ _ _ (looked_has a.chip a.table c.in-Ok.layout c.in-Ok.ensures) _ _ c.plan_by.ensures

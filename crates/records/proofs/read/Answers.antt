@@ -13,12 +13,12 @@ use Rattle.records.proofs.Answers.{record_refused}
 use Rattle.records.proofs.Lookups.{looked_refused}
 use Rattle.records.proofs.read.Goals as goal
 
-pub returns-in-Refused : goal.returns-in-Refused
-returns-in-Refused c =
+pub returns-in-Err : goal.returns-in-Err
+returns-in-Err c =
     let bytes = c.args.bytes.now in
     let chip = chip_number_in bytes in
     let table = table_number_in bytes in
     let mark : wrong_mark bytes ≡ false = ap not (sym c.is_mark.ensures ∙ c.if-not-is_mark.false) in
     let behind : List Check = (other_mark (get_or bytes 1 0) chip table, 16) ∷ (fill_checks chip table (body_in bytes) ++ order_checks (plan_in bytes)) in
-    record_refused bytes c.refused-in-Refused.ensures
-    (rw (le-ltb _ _ c.if-bytes-lt4.false, mark) (looked_refused chip table _ behind c.in-Refused.ensures))
+    record_refused bytes c.refused-in-Err.ensures
+    (rw (le-ltb _ _ c.if-bytes-lt4.false, mark) (looked_refused chip table _ behind c.in-Err.ensures))

@@ -61,21 +61,21 @@ returns-in_default c =
     (body_taken c.args.layout bytes c.requires _ (rw (to_the_end bytes 4) at c.plan_by-found.ensures))
     c.in_default.is
 
-pub returns-in-Refused : goal.returns-in-Refused
-returns-in-Refused c =
+pub returns-in-Err : goal.returns-in-Err
+returns-in-Err c =
     let bytes = c.args.bytes.now in
-    let T = plan_taken _ _ _ _ _ (body_taken c.args.layout bytes c.requires _ (rw (to_the_end bytes 4) at c.plan_by-found.ensures)) c.in-Of.is in
+    let T = plan_taken _ _ _ _ _ (body_taken c.args.layout bytes c.requires _ (rw (to_the_end bytes 4) at c.plan_by-found.ensures)) c.in-Ok.is in
     let complete : Complete bytes = record {
       marked = marked_by c.args.layout bytes c.mark_of.result c.requires c.mark_of.ensures c.if-bytes-mark_of.false;
       whole = T.whole;
     } in
-    record_refused _ c.refused-in-Refused.ensures
-    (c.in-Refused.ensures.answer ∙ ap (λ (plan : Plan). first (plan_checks plan)) T.plan_in_is ∙ complete_judged _ complete)
+    record_refused _ c.refused-in-Err.ensures
+    (c.in-Err.ensures.answer ∙ ap (λ (plan : Plan). first (plan_checks plan)) T.plan_in_is ∙ complete_judged _ complete)
 
 pub returns : goal.returns
 returns c =
     let bytes = c.args.bytes.now in
-    let T = plan_taken _ _ _ _ _ (body_taken c.args.layout bytes c.requires _ (rw (to_the_end bytes 4) at c.plan_by-found.ensures)) c.in-Of.is in
+    let T = plan_taken _ _ _ _ _ (body_taken c.args.layout bytes c.requires _ (rw (to_the_end bytes 4) at c.plan_by-found.ensures)) c.in-Ok.is in
     let complete : Complete bytes = record {
       marked = marked_by c.args.layout bytes c.mark_of.result c.requires c.mark_of.ensures c.if-bytes-mark_of.false;
       whole = T.whole;

@@ -17,7 +17,7 @@ returns-then-not-is_status c =
     let plain = read_plain a.chip a.address (record { image = a.image.now; watch = a.watch })
     (ap (λ (s : Access). is_status a.chip s.position) (sym seen_one) ∙ sym c.is_status.ensures.answer ∙ c.if-not-is_status.true) in
     record {
-      answer = ap₂ (λ (b : ℕ) (w : Watch). (0, (b, w))) (ap (λ (s : Access). s.byte) seen_one) (ap (λ (s : State). s.watch) (sym plain));
+      answer = ap₂ (λ (b : ℕ) (w : Watch). (b, w)) (ap (λ (s : Access). s.byte) seen_one) (ap (λ (s : State). s.watch) (sym plain));
       bytes = ap (λ (s : State). s.image) (sym plain);
     }
 
@@ -28,7 +28,7 @@ returns c =
     let status = read_status a.chip a.address (record { image = a.image.now; watch = a.watch })
     (ap (λ (s : Access). is_status a.chip s.position) (sym seen_one) ∙ sym c.is_status.ensures.answer ∙ c.if-not-is_status.false) in
     record {
-      answer = ap₂ (λ (b : ℕ) (w : Watch). (0, (b, w))) (ap (λ (s : Access). s.byte) seen_one)
+      answer = ap₂ (λ (b : ℕ) (w : Watch). (b, w)) (ap (λ (s : Access). s.byte) seen_one)
           (c.acknowledge.ensures.answer ∙ ap (λ (s : State). s.watch) (sym status));
       bytes = c.clear.ensures
           ∙ ap (λ (s : Access). set a.image.now s.position 0) seen_one

@@ -1,6 +1,9 @@
--- `translate::text_of` meets its contract: a buffer of 40,979 bytes takes the text of any input, so the arm of a refusal is never reached.
-use Rattle.translation.proofs.Answers.{never_refused}
+-- `translate::text_of` meets its contract: a buffer of 40,979 bytes takes the text of any input, so no input is refused.
+-- Assumes nothing.
+use mathlib.Core.Path.{ap}
+use Rattle.std.specs.Result.{is_ok}
+use Rattle.translation.proofs.Answers.{always_written}
 use Rattle.translate.proofs.text_of.Goals as goal
 
-pub returns-in-Refused : goal.returns-in-Refused
-returns-in-Refused c = absurd (never_refused c.requires c.translate.ensures c.in-Refused.is)
+pub unwrap-requires : goal.unwrap-requires
+unwrap-requires c = ap is_ok (always_written c.requires c.translate.ensures)

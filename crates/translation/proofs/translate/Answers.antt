@@ -7,4 +7,4 @@ use Rattle.translation.proofs.translate.Goals as goal
 
 pub returns : goal.returns
 returns c =
-    translated _ _ (leb-true _ _ (sym c.has_room.ensures ∙ c.if-not-has_room.false)) c.all_lines.ensures
+    translated _ _ (leb-true _ _ (sym c.has_room.ensures ∙ c.if-not-has_room.false)) c.put.ensures.length c.put.ensures.bytes

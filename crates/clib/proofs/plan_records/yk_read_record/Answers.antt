@@ -2,7 +2,6 @@
 -- Assumes nothing.
 use Rattle.records.specs.Promises.{record_checks}
 use Rattle.clib.proofs.Within.{told_within, used_within}
-use borrow.Author.Rules.{rules}
 use Rattle.clib.proofs.plan_records.yk_read_record.Goals as goal
 
 pub of_used-requires : goal.of_used-requires

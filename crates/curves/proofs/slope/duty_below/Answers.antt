@@ -1,37 +1,33 @@
--- `curves::slope::duty_below` meets its contract: above a point that is passed, the points behind it ask what all ask.
+-- `curves::slope::duty_below` meets its contract: the first point that T is at most has passed all before it.
 -- Assumes nothing.
-use Prim.Native.Nat.{ℕ}
+use Prim.Native.Nat.{◌-◌}
 use native.Mathlib.Omega.{arith}
-use mathlib.Core.Path.{ap, ◌∙◌}
-use lib.ListN.{get_or}
-use Rattle.curves.proofs.Walks.{below_none, below_first, passed_first, passed_here, passed_next, passed_last}
-use borrow.Author.Rules.{rules}
+use mathlib.Core.Path.{sym, ◌∙◌}
+use borrow.Author.Tests.{leb-true, leb-false}
+use lib.Dec.{leb}
+use Rattle.std.proofs.lemmas.List.Quantifiers.{position-Some}
+use Rattle.std.proofs.lemmas.Option.{unwrap_or-slice_get}
+use Rattle.curves.proofs.Walks.{below_first, below_here, below_last}
 use Rattle.curves.proofs.slope.duty_below.Goals as goal
 
-pub returns-then-degrees-eq0 : goal.returns-then-degrees-eq0
-returns-then-degrees-eq0 c =
+pub returns-in-Some-eq0 : goal.returns-in-Some-eq0
+returns-in-Some-eq0 c =
     let a = c.args in
-    below_none a.full a.degrees.now a.duties.now a.at (omega (arith, c.if-degrees-eq0.true))
+    below_first a.full a.degrees.now a.duties.now a.at c.requires (cc)
 
-pub returns-then-at-degrees : goal.returns-then-at-degrees
-returns-then-at-degrees c =
-    let some = c.if-degrees-eq0.false in
-    below_first c.args.full c.args.degrees.now c.args.duties.now c.args.at (omega (arith, some)) c.requires c.if-at-degrees.true
+pub mean-requires : goal.mean-requires
+mean-requires c =
+    let a = c.args in
+    let found = position-Some (leb a.at) a.degrees.now c.in-Some.k 0 (sym c.first_ahead.ensures ∙ c.in-Some.is) in
+    (leb-false a.at _ (found.2 (c.in-Some.k - 1) (omega arith)), leb-true a.at _ found.1)
 
-pub loop-k-init : goal.loop-k-init
-loop-k-init c =
-    let some = c.if-degrees-eq0.false in (
-      omega (arith, some),
-      passed_first c.args.full c.args.degrees.now c.args.duties.now c.args.at (omega (arith, some)) c.requires c.if-at-degrees.false,
-    )
+pub returns-in-Some : goal.returns-in-Some
+returns-in-Some c =
+    let a = c.args in
+    c.mean.ensures ∙ below_here a.full a.degrees.now a.duties.now a.at c.in-Some.k c.requires (omega arith) (sym c.first_ahead.ensures ∙ c.in-Some.is)
 
-pub returns-then-at-degrees-2 : goal.returns-then-at-degrees-2
-returns-then-at-degrees-2 c = c.mean.ensures ∙ passed_here c.loop-k.invariant.1 (search rules) c.if-at-degrees-2.true
-
-pub loop-k-preserved : goal.loop-k-preserved
-loop-k-preserved c = (search rules, passed_next c.loop-k.invariant.1 (search rules) c.if-at-degrees-2.false)
-
-pub returns : goal.returns
-returns c =
-    ap (λ (k : ℕ). get_or c.args.duties.now k 0) (omega (arith, c.loop-k.invariant, c.loop-k-test.false))
-    ∙ passed_last c.loop-k.invariant.1 (search rules)
+pub returns-in-None : goal.returns-in-None
+returns-in-None c =
+    let a = c.args in
+    rw (c.unwrap_or.ensures, c.copied.ensures, c.last.ensures.value, unwrap_or-slice_get)
+    (below_last a.full a.degrees.now a.duties.now a.at c.requires (sym c.first_ahead.ensures ∙ c.in-None.is))

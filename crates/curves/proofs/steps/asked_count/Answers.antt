@@ -1,20 +1,24 @@
--- `curves::steps::asked_count` meets its contract: what is left to walk asks the same count as all.
+-- `curves::steps::asked_count` meets its contract: the count is that of the first bound that T is above.
 -- Assumes nothing.
 use Prim.Native.Nat.{ℕ}
 use native.Mathlib.Omega.{arith}
-use mathlib.Core.Path.{ap, ◌∙◌}
+use mathlib.Core.Path.{◌≡◌, ap, sym, ◌∙◌}
+use lib.Dec.{ltb}
 use lib.ListN.{get_or}
-use Rattle.curves.proofs.Walks.{stepped_here, stepped_next, stepped_last}
-use borrow.Author.Rules.{rules}
+use Rattle.std.specs.List.{position_or_len}
+use Rattle.std.proofs.lemmas.Grind.{common_steps}
+use Rattle.curves.proofs.Walks.{step_at, none_passes}
 use Rattle.curves.proofs.steps.asked_count.Goals as goal
 
-pub returns-then-bounds-k : goal.returns-then-bounds-k
-returns-then-bounds-k c = stepped_here c.loop-k.invariant (search rules) c.if-bounds-k.true
+pub returns-in-Some : goal.returns-in-Some
+returns-in-Some c =
+    let a = c.args in
+    let place : c.in-Some.k ≡ position_or_len (λ b. ltb b a.t) a.bounds = grind (arith, common_steps) in
+    ap (λ (k : ℕ). get_or a.counts k 0) place ∙ step_at a.bounds a.counts a.t
 
-pub loop-k-preserved : goal.loop-k-preserved
-loop-k-preserved c = stepped_next c.loop-k.invariant (search rules) c.if-bounds-k.false
-
-pub returns : goal.returns
-returns c =
-    ap (λ (k : ℕ). get_or c.args.counts k 0) (omega arith)
-    ∙ stepped_last c.loop-k.invariant (search rules)
+pub returns-in-None : goal.returns-in-None
+returns-in-None c =
+    let a = c.args in
+    let place : 4 ≡ position_or_len (λ b. ltb b a.t) a.bounds =
+    omega (arith, none_passes (λ b. ltb b a.t) a.bounds (sym c.first_passed.ensures ∙ c.in-None.is)) in
+    ap (λ (k : ℕ). get_or a.counts k 0) place ∙ step_at a.bounds a.counts a.t

@@ -3,11 +3,11 @@ use Rattle.plays.proofs.NeverSlower.{since_first}
 use Rattle.figures_scripts.proofs.Runs.{one_more, all_of}
 use Rattle.figures_scripts.proofs.restart_lines.run.Goals as goal
 
-pub loop-k-init : goal.loop-k-init
-loop-k-init c = since_first _ _
+pub loop-play-init : goal.loop-play-init
+loop-play-init c = since_first _ _
 
-pub loop-k-preserved : goal.loop-k-preserved
-loop-k-preserved c = one_more _ _ c.loop-k-test.true (c.again.ensures.again _ _ c.loop-k.invariant)
+pub loop-play-preserved : goal.loop-play-preserved
+loop-play-preserved c = one_more _ _ c.loop-play-test.true (c.again.ensures.again _ _ c.loop-play.invariant)
 
 pub returns : goal.returns
-returns c = all_of _ _ c.loop-k-test.false c.loop-k.invariant
+returns c = all_of _ _ c.loop-play-test.false c.loop-play.invariant

@@ -1,39 +1,36 @@
--- `plans::tables::each_fits` meets its contract: what the places ahead say is what all of them say.
+-- `plans::tables::each_fits` meets its contract: all of the places pass the test.
 -- Assumes nothing.
-use Prim.Native.Nat.{ℕ, suc, ◌-◌, ◌<◌}
+use Prim.Native.Nat.{ℕ, zero, suc, ◌-◌}
 use native.Mathlib.Numerals.{add-one}
-use native.Mathlib.Omega.{arith}
-use mathlib.Core.Path.{◌≡◌, sym, ap, ◌∙◌}
+use mathlib.Core.Path.{◌≡◌, refl, ap, ◌∙◌}
 use mathlib.Core.Bool.{Bool, ◌&&◌}
 use mathlib.Core.List.{List}
-use borrow.Author.Tests.{eq-eqb}
+use borrow.Author.Tests.{tests}
+use borrow.Author.Rules.{rules}
 use lib.Bits.{bit_and}
 use lib.Dec.{eqb}
 use lib.ListN.{get_or}
+use Rattle.std.specs.List.{range_with_len, list_all}
+use Rattle.std.proofs.lemmas.Iterator.{YieldsList-from_range}
+use Rattle.std.proofs.lemmas.Iterator.Search.{all_from_yields_List}
 use Rattle.pages.specs.declared.Register.{Register}
 use Rattle.pages.specs.Rows.{stands_at}
 use Rattle.plans.specs.Parts.{fit_from}
 use Rattle.plans.proofs.tables.each_fits.Goals as goal
 
--- the place ahead, and those behind it
-ahead : (register : ℕ → Register) (body : List ℕ) (k to : ℕ) → k < to
-    → fit_from register body k (to - k)
-    ≡ (eqb (bit_and (get_or body k 0) (register k).masks.writable) (get_or body k 0) && fit_from register body (suc k) (to - suc k))
-ahead register body k to h =
-    let more : to - k ≡ suc (to - suc k) = omega arith in
-    ap (fit_from register body k) more
+abbrev fits : (ℕ → Register) → List ℕ → ℕ → Bool
+fits register values k = eqb (bit_and (get_or values k 0) (register k).masks.writable) (get_or values k 0)
 
-fit : (register : ℕ → Register) (body : List ℕ) (k to mask : ℕ) → k < to → mask ≡ (register k).masks.writable
-    → bit_and (get_or body k 0) mask ≡ get_or body k 0 → fit_from register body k (to - k) ≡ fit_from register body (suc k) (to - suc k)
-fit register body k to mask h m e =
-    let byte = get_or body k 0 in
-    ahead register body k to h
-    ∙ ap (λ (b : Bool). b && fit_from register body (suc k) (to - suc k))
-    (eq-eqb (bit_and byte (register k).masks.writable) byte (ap (bit_and byte) (sym m) ∙ e))
+all_fit : (register : ℕ → Register) (values : List ℕ) (place n : ℕ) → list_all (fits register values) (range_with_len place n) ≡ fit_from register values place n
+all_fit register values place zero = refl
+all_fit register values place (suc n) =
+    ap (λ (b : Bool). fits register values place && b)
+    (ap (λ (k : ℕ). list_all (fits register values) (range_with_len k n)) (add-one place) ∙ all_fit register values (suc place) n)
 
-pub loop-k-preserved : goal.loop-k-preserved
-loop-k-preserved c =
+pub returns : goal.returns
+returns c =
     let a = c.args in
-    let mask = ap (λ (r : Register). r.masks.writable) c.register_at-register.ensures.answer in
-    rw (add-one c.loop-k.k)
-    (c.loop-k.invariant ∙ fit (stands_at a.stretches) a.body c.loop-k.k a.to _ c.loop-k-test.true mask c.if-byte-masks.false)
+    let register = stands_at a.stretches in
+    all_from_yields_List (fits register a.body) _ _ _ c.all.ensures.ran (YieldsList-from_range a.from a.to (a.to - a.from) refl refl)
+    (λ k b q called. search (rules, tests))
+    ∙ all_fit register a.body a.from (a.to - a.from)

@@ -1,7 +1,9 @@
--- `playing::make_all` meets its contract: the writes passed are made on the image.
+-- `playing::make_all` meets its contract: the writes that are left, made on the image as it is, leave what all of them leave.
 -- Assumes nothing.
-use Rattle.scripts.proofs.Turns.{Made}
+use Rattle.std.proofs.Common.{◌≡◌}
+use Rattle.scripts.specs.Left.{left_of}
+use Rattle.scripts.specs.Making.{made_of}
 use Rattle.scripts.proofs.playing.make_all.Given as goal
 
-abbrev pub invariant-loop-k : goal.invariant-loop-k
-invariant-loop-k l = Made l.load l.body l.writes l.initial.image l.image l.cursor l.k
+abbrev pub invariant-loop-write : goal.invariant-loop-write
+invariant-loop-write l = made_of (left_of l.write-iterator) l.image ≡ made_of (left_of l.fn.writes) l.initial.image

@@ -1,8 +1,13 @@
 -- `lines::header` meets its contract: each word with its number, then the newline.
 -- Assumes nothing.
-use Rattle.translation.proofs.Adding.{adds_then}
+use Rattle.translation.specs.Text.{field}
+use Rattle.translation.proofs.Adding.{adds_line}
 use Rattle.translation.proofs.lines.header.Goals as goal
 
 pub returns : goal.returns
 returns c =
-    adds_then (adds_then c.field-a.ensures (adds_then c.field-b.ensures (adds_then c.field-c.ensures c.field-d.ensures))) c.put.ensures
+    let a = c.args in
+    rw (← c.from.ensures, ← c.from-2.ensures)
+    (adds_line (field "plan " a.number) _ c.field.ensures
+    (adds_line (field " chip " c.from.result) _ c.field-2.ensures
+    (adds_line (field " table " c.from-2.result) (field " writes " a.writes) c.field-3.ensures c.last_field.ensures)))

@@ -1,0 +1,12 @@
+-- `SlopeValues::duties_never_fall` meets its contract: it is what `is_sorted` answers of the duties that there are.
+-- Assumes nothing.
+use mathlib.Core.Path.{ap, ◌∙◌}
+use borrow.Author.Rules.{rules}
+use Rattle.pages.specs.Sheets.{most_points}
+use Rattle.curves.specs.Orders.{never_falls}
+use Rattle.curves.proofs.Taken.{take_room}
+use Rattle.curves.proofs.Walks.{in_order}
+use Rattle.curves.proofs.SlopeValues.duties_never_fall.Goals as goal
+
+pub returns : goal.returns
+returns c = in_order _ _ c.is_sorted.ensures.cases ∙ rw c.count_of.ensures.answer (ap never_falls (take_room c.args.points most_points c.args.self.duties (search rules)))
