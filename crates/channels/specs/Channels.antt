@@ -9,7 +9,7 @@ use Rattle.readings.specs.Sensors.{with_temperature}
 use Rattle.watch.specs.declared.Watch.{Watch}
 use Rattle.watch.specs.Alarm.{in_steps, shown, sample, after}
 
--- "The chip's state is the lent image and, beside it, the watch by value"
+-- the chip's state: the lent image and, beside it, the watch by value
 pub record State : Type 0 where
   pub image : List ℕ
   pub watch : Watch
@@ -18,19 +18,19 @@ pub record State : Type 0 where
 abbrev pub is_on : ℕ → ℕ → Bool
 is_on bit byte = not (eqb (bit_and byte bit) 0)
 
--- "Channels disabled at 08h (bits 0 to 6 the voltages, bit 7 the temperature)"
+-- "channels disabled at 08h": bits 0 to 6 are the voltages, bit 7 the temperature
 abbrev pub disabled : ℕ → List ℕ → Bool
 disabled channel image = is_on (2 ^ channel) (get_or image channel_select 0)
 
--- "sets, never clears, status bits"
+-- a sample sets status bits and clears none
 abbrev pub raised : ℕ → ℕ → Bool → List ℕ → List ℕ
 raised register bit on image = cond on (set image register (bit_or (get_or image register 0) bit)) image
 
--- "its ten-bit code (word >> 6) is strictly above 4 times the high limit or strictly below 4 times the low limit (a limit counts 10 mV, four codes)"
+-- "strictly above its high or strictly below its low limit", by the ten-bit code of the word; a limit counts 10 mV, four codes
 abbrev pub beyond : ℕ → ℕ → ℕ → Bool
 beyond high low word = ltb (4 * high) (bits 15 6 word) || ltb (bits 15 6 word) (4 * low)
 
--- A voltage of a sample: "each voltage's high byte at 20h to 26h", and "01h bit n for INn". A channel that is disabled stores 0 and raises nothing.
+-- A voltage of a sample: its high byte at 20h to 26h, and bit n of 01h for INn. A channel that is disabled stores 0 and raises nothing.
 abbrev pub voltage_taken : ℕ → ℕ → List ℕ → List ℕ
 voltage_taken n word image =
     cond (disabled n image) (set image (reading_at n) 0)
@@ -41,20 +41,20 @@ abbrev pub voltages_taken : ℕ → List ℕ → List ℕ → List ℕ
 voltages_taken zero words image = image
 voltages_taken (suc n) words image = voltage_taken n (get_or words n 0) (voltages_taken n words image)
 
--- a limit "as signed whole degrees"
+-- a limit as signed whole degrees
 abbrev pub limit_in : ℕ → List ℕ → ℤ
 limit_in register image = degrees_of (get_or image register 0)
 
--- "the watch, fed with limits 38h and 39h"
+-- the watch, fed with the limits at 38h and 39h
 abbrev pub fed : ℤ → State → Watch
 fed steps state = after state.watch (sample steps (limit_in hot_limit state.image) (limit_in hysteresis_limit state.image))
 
--- "the temperature is strictly above 3Ah in whole degrees"
+-- whether the temperature is strictly above 3Ah in whole degrees
 abbrev pub above_os : ℤ → List ℕ → Bool
 above_os steps image = lt_z (in_steps (limit_in os_limit image)) steps
 
--- The temperature of a sample: "It stores the temperature at 27h and bits 7 to 4 of 06h (bits 3 to 0 of 06h stay)", "02h bit 0 where the watch .. has its
--- output on; 02h bit 5 where the temperature is strictly above 3Ah". Disabled, it stores 0, raises nothing and "does not feed the watch".
+-- The temperature of a sample: it is stored at 27h and in bits 7 to 4 of 06h, whose bits 3 to 0 stay; bit 0 of 02h goes on where the watch has its
+-- output on, bit 5 where the temperature is strictly above 3Ah. Disabled, it stores 0, raises nothing and does not feed the watch.
 abbrev pub temperature_taken : ℤ → State → State
 temperature_taken steps state =
     let watch : Watch = fed steps state in
@@ -65,6 +65,6 @@ temperature_taken steps state =
       watch = watch;
     })
 
--- "A sample for chip 3 is a temperature (12-bit steps) and seven voltage words": in the order in which the sheet monitors them
+-- a sample of chip 3, "a temperature and seven voltage words", the steps of 12 bits: in the order in which the sheet monitors them
 unfoldable pub sampled : ℤ → List ℕ → State → State
 sampled steps words state = record { image = voltages_taken 7 words (temperature_taken steps state).image; watch = (temperature_taken steps state).watch }

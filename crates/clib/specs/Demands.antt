@@ -116,7 +116,7 @@ pub record Demand1 : Type 0 where
   pub watch_acknowledge : (w : Watch) → Given (λ r. watch.Acknowledges w r)
   pub watch_output : (w : Watch) → Given (λ r. watch.Shows w r)
   pub watch_run : (w : Watch) (samples : List ℤ) (high hysteresis : ℤ) → Given (λ r. watch.Runs w samples high hysteresis r)
-  -- a chip's state: "Refused: no byte, no fact altered"
+  -- a chip's state; a refused call alters no byte and no fact
   pub sample_channels : (old : List ℕ) (w : Watch) (steps : ℤ) (words : List ℕ) (r : Result Watch Refused) (new : List ℕ) → channels.SamplesChannels old w steps words r new
       → Answered (channels.channel_checks old steps) w (watch.tells_sampled r) × Kept (watch.tells_sampled r).0 old new
   pub read : (chip : ℕ) (old : List ℕ) (address : ℕ) (w : Watch) (r : Result (ℕ × Watch) Refused) (new : List ℕ) → states.ReadsByte chip old address w r new
@@ -188,7 +188,7 @@ pub record Demand1 : Type 0 where
       → Answered (room_checks (length (text_of input)) old) 0 (unpacked r) × Kept (unpacked r).0 old new
 
 pub record Demand2 : Type 0 where
-  -- "Temperatures go from bytes to steps and back, ignored bits aside": the bytes of n steps are counted as n ..
+  -- "Temperatures go from bytes to steps and back again, ignored bits aside": the bytes of n steps are counted as n ..
   pub steps_and_back : (width high low : ℕ) (n : ℤ) (r : Result ℤ Refusal) → readings.GivesBytes width n (Ok (high, low)) → readings.CountsSteps width high low r → r ≡ Ok n
   -- .. and bytes that are counted as n are, but for the ignored bits, the bytes of n steps
   pub bytes_and_back : (width high low : ℕ) (n : ℤ) (r : Result (ℕ × ℕ) Refusal) → high < 256 → low < 256 → readings.CountsSteps width high low (Ok n) → readings.GivesBytes width n r

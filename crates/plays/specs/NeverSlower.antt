@@ -24,7 +24,7 @@ NeverSlower shape (Err r) old plan = ⊥
 
 -- Demand 3, of a stop: `old` is the image before, `new` the image at the stop, `count` how many writes the last play was asked for.
 pub record Demand3 (chip : Chip) (plan : Plan) (old : List ℕ) (count : ℕ) (new : List ℕ) : Type 0 where
-  -- "At every temperature, the speed asked at the stop is never slower than the slower of the old curve and the plan."
+  -- "At every temperature of that chip, the speed asked at the stop is never slower than the slower of the old curve and the plan."
   pub never_slower : (t : ℕ) (stop before planned : Result ℕ Refusal)
       → AsksImage plan.chip plan.table new t stop
       → AsksImage plan.chip plan.table old t before
@@ -54,8 +54,8 @@ pub record Since (plan : Plan) (start counts image : List ℕ) : Type 0 where
   pub stop : (chip : Chip) → chip_of plan.chip ≡ Some chip → first (plan_checks plan) ≡ 0 → first (identity_checks plan.chip start) ≡ 0
       → Reached chip plan start counts image
 
--- What `plays::play` promises of a stop, beside its answer and its bytes: "Take any accepted plan and any starting image whose identity its
--- chip confirms. Play the plan's script and stop after any number of whole writes, from none to all."
+-- What `plays::play` promises of a stop, beside its answer and its bytes: "Take any plan our rules accept and any starting
+-- image whose identity its chip confirms. Play the plan's script, and stop after any number of whole writes, from none to all."
 pub record Safely (plan : Plan) (old : List ℕ) (count : ℕ) (new : List ℕ) : Type 0 where
   pub stop : (chip : Chip) → chip_of plan.chip ≡ Some chip → first (plan_checks plan) ≡ 0 → first (identity_checks plan.chip old) ≡ 0
       → Demand3 chip plan old count new

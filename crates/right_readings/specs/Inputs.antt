@@ -7,8 +7,8 @@ use Rattle.std.specs.Prelude.{ℕ, ◌+◌, ◌*◌, ◌%◌, cond, List, [], �
 abbrev pub Input : Type 0
 Input = ℕ × ℕ
 
--- The addresses are those of section 7.1.10, where 62h is LTD, a temperature. Section 6.4: "VSEN1~14 : Voltage(V) = 11bitCountValue x 0.002",
--- "3VSB, 3VDD, VBAT, VSEN17,18,19 : Voltage(V) = 11bitCountValue x 0.006".
+-- The addresses are those of section 7.1.10, where 62h is LTD, a temperature. By the formulas of section 6.4 a count is
+-- 0.002 V of VSEN1 to VSEN14, and 0.006 V of 3VSB, 3VDD, VBAT and VSEN17 to VSEN19.
 abbrev pub inputs : List Input
 inputs =
     (0x40, 2000)  -- VSEN1

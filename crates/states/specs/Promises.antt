@@ -27,7 +27,7 @@ left_of chip step image watch =
     let state : State = record { image = image; watch = watch } in
     when_known (chip_of chip) (λ c. step c state) state
 
--- what `states::read` promises: "Refused: no byte, no fact altered"
+-- what `states::read` promises; a refused call alters no byte and no fact
 pub record ReadsByte (chip : ℕ) (old : List ℕ) (address : ℕ) (watch : Watch) (r : Result (ℕ × Watch) Refused) (new : List ℕ) : Type 0 where
   pub answer : tells_byte r
       ≡ told_or (0, watch) (image_checks chip old) (when_known (chip_of chip) (λ c. seen c address old) 0, (left_of chip (λ c. after_read c address) old watch).watch)

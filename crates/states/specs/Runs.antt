@@ -1,4 +1,4 @@
--- "A run of samples, reads and resets is the single steps in turn", and writes with them: what calls on one state leave, each made on the image and the
+-- A run of samples, reads, writes and resets is the single steps in turn: what calls on one state leave, each made on the image and the
 -- watch that the one before left.
 -- Assumes nothing.
 use Rattle.std.specs.Prelude.{ℕ, ◌≡◌, cond, List, [], ◌∷◌, eqb, ℤ, Result, ⊤}
@@ -22,7 +22,7 @@ pub data Event : Type 0 where
   write : ℕ → ℕ → Event
   reset : Event
 
--- "Refused: no byte, no fact altered"
+-- a refused call alters no byte and no fact
 abbrev pub unless_refused : List Check → State → State → State
 unless_refused checks new old = cond (eqb (first checks) 0) new old
 

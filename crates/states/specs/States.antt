@@ -8,14 +8,14 @@ use Rattle.watch.specs.declared.Watch.{Watch}
 use Rattle.watch.specs.Alarm.{fresh, acknowledged}
 use Rattle.channels.specs.Channels.{State}
 
--- "A read of 01h or 02h gives the byte, then clears that register, and is the acknowledge (pending off, hot stays; also where the byte was 00h). Every
--- other read changes nothing." What it gives is `seen`, of the image before.
+-- "Reading 01h or 02h returns the byte and then clears it, and counts as the acknowledge": pending goes off and hot stays, also where the byte was 00h.
+-- Every other read changes nothing. What it gives is `seen`, of the image before.
 unfoldable pub after_read : Chip → ℕ → State → State
 after_read chip address state =
     let at : ℕ = position chip state.image address in
     cond (is_status chip at) (record { image = set state.image at 0; watch = acknowledged state.watch }) state
 
--- "Reset turns both facts off and keeps the behaviour", of a chip that has status registers; "Other chips carry it unchanged".
+-- "A reset turns both facts off" and keeps the behaviour, of a chip that has status registers; other chips carry the watch unchanged.
 abbrev pub rested : Chip → Watch → Watch
 rested chip watch = cond (eqb (length (sheet_of chip).status) 0) watch (fresh watch.behaviour)
 
