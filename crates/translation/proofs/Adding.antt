@@ -42,7 +42,7 @@ pub adds_line : (s t : List ℕ) {before mid after : Output} → Adds s before m
 adds_line s t a b = adds_as (sym (append_assoc s t (ascii "\n"))) (adds_then a b)
 
 -- past the buffer's end nothing is written
-sets_past : (text old : List ℕ) (at : ℕ) → length old ≤ at → sets old at text ≡ old
+pub sets_past : (text old : List ℕ) (at : ℕ) → length old ≤ at → sets old at text ≡ old
 sets_past [] old at h = refl
 sets_past (x ∷ text) old at h =
     ap (λ (l : List ℕ). sets l (suc at) text) (set_past old at x h) ∙ sets_past text old (suc at) (omega arith)

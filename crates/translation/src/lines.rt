@@ -41,7 +41,12 @@ fn write(output: &mut Output<'_>, address: u8, byte: u8)
     requires { InRange (write_line (address, byte)) output.old }
     ensures { Adds (write_line (address, byte)) output.old output.new }
 {
-    output.append(&write_line(address, byte));
+    // Asked first: a line that fits is put together where it will stand. Made before, it is an array, written and then copied.
+    if output.has_room(6) {
+        output.put(write_line(address, byte));
+    } else {
+        output.append(&write_line(address, byte));
+    }
 }
 
 // A line for each write, an address and its byte.
