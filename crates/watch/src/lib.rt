@@ -2,7 +2,7 @@
 #![tactic(auto)]
 
 ghost use Rattle.std.specs.Prelude.{◌≡◌};
-ghost use Rattle.watch.specs.Alarm.{is_sample, in_steps, hot_after, pending_after, after, sample};
+ghost use Rattle.watch.specs.Alarm.{is_sample, in_steps, hot_after, pending_after, taken, after, sample};
 ghost use Rattle.watch.specs.Promises.{Starts, Samples, Acknowledges, Shows, Runs};
 
 use refusal::Refusal;
@@ -81,6 +81,16 @@ impl Watch {
         }
     }
 
+    // What a sample of 12 bits leaves.
+    fn taken(mut self, steps: i16, high: i8, hysteresis: i8) -> Watch
+        ensures { result ≡ taken self steps high hysteresis }
+    {
+        let hot = hot_after(self.hot, steps, high, hysteresis);
+        self.pending = pending_after(self.behaviour, self.hot, hot, self.pending);
+        self.hot = hot;
+        self
+    }
+
     // A sample of 12 bits, with its limits in whole degrees. Any other number of steps is refused and changes neither fact.
     pub fn sample(mut self, steps: i16, high: i8, hysteresis: i8) -> Result<Watch, Refused>
         ensures { Samples self steps high hysteresis result }
@@ -91,9 +101,7 @@ impl Watch {
                 watch: self,
             });
         }
-        let hot = hot_after(self.hot, steps, high, hysteresis);
-        self.pending = pending_after(self.behaviour, self.hot, hot, self.pending);
-        self.hot = hot;
+        self = self.taken(steps, high, hysteresis);
         Ok(self)
     }
 
@@ -120,9 +128,10 @@ impl Watch {
     fn after(self, steps: i16, high: i8, hysteresis: i8) -> Watch
         ensures { result ≡ after self (sample steps high hysteresis) }
     {
-        match self.sample(steps, high, hysteresis) {
-            Ok(watch) => watch,
-            Err(refused) => refused.watch,
+        if is_sample(steps) {
+            self.taken(steps, high, hysteresis)
+        } else {
+            self
         }
     }
 
