@@ -1,6 +1,7 @@
 // Chips 4 and 5 on the bus, with their banks. `bank chip C select SS reads D writes D` has a digest of what every address gives, and of the image after a
 // write to every address but that of the select register. Neither chip has a status register: no read changes anything.
 use crate::{bus, image_calls};
+use figures_printing::{Byte, Word};
 use std::io::{self, Stdout};
 
 // The address of the select register, which is its position too.
@@ -139,11 +140,12 @@ fn selected(out: Stdout, chip: u8, image: &mut [u8], byte: u8) -> io::Result<()>
     fill_with_positions(image);
     select(chip, image, byte);
     print!(out;
-        "bank chip {chip} select {byte:02X} reads {:04X}",
-        digest_of_reads(chip, image)
+        "bank chip {chip} select {} reads {}",
+        Byte(byte),
+        Word(digest_of_reads(chip, image))
     )?;
     write_all_beside(chip, image);
-    println!(out; " writes {:04X}", digest(image))
+    println!(out; " writes {}", Word(digest(image)))
 }
 
 // Each bank code, whatever the other bits hold.

@@ -2,7 +2,7 @@
 // `identity chip C sees PPP MM`; of chips 4 and 5 with each bank code selected, `identity chip C select SS confirmed bits N`; of chip 5 each byte with
 // which a register is confirmed, `identity chip 5 select SS at PPP takes BB`.
 use crate::{banks, image_calls};
-use figures_printing::Placed;
+use figures_printing::{Byte, Placed, Position};
 use std::io::{self, Stdout};
 
 fn turn(image: &mut [u8], at: usize, bit: u8) {
@@ -62,7 +62,7 @@ fn at_power_on(out: Stdout, chip: u8, image: &mut [u8]) -> io::Result<()> {
 fn begin_selected(out: Stdout, chip: u8, image: &mut [u8], select: u8) -> io::Result<()> {
     let _ = images::reset(chip, image);
     banks::select(chip, image, select);
-    print!(out; "identity chip {chip} select {select:02X}")
+    print!(out; "identity chip {chip} select {}", Byte(select))
 }
 
 fn selected(out: Stdout, chip: u8, image: &mut [u8], select: u8) -> io::Result<()> {
@@ -85,11 +85,11 @@ fn codes_of(out: Stdout, chip: u8, image: &mut [u8]) -> io::Result<()> {
 fn takes(out: Stdout, select: u8, at: usize) -> io::Result<()> {
     let mut image = [0; 768];
     begin_selected(out, 5, &mut image, select)?;
-    print!(out; " at {at:03X} takes")?;
+    print!(out; " at {} takes", Position(at))?;
     for byte in 0..=255 {
         banks::put(&mut image, at, byte);
         if identities::confirm(5, &image).is_ok() {
-            print!(out; " {byte:02X}")?;
+            print!(out; " {}", Byte(byte))?;
         }
     }
     println!(out)

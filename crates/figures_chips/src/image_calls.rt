@@ -1,6 +1,6 @@
 // Each call on an image, at known and unknown chip numbers and at lengths about 256, 768 and 1,280. A lent buffer is filled with 5Ah beforehand, and a
 // refusal says whether it still is: `CALL chip C length L ..`.
-use figures_printing::{FILL, Refused, kept};
+use figures_printing::{Byte, FILL, Refused, kept};
 use refusal::Refusal;
 use std::io::{self, Stdout};
 use watch::{Behaviour, Watch};
@@ -25,7 +25,7 @@ pub fn asked(chip: u8, image: &mut [u8], address: u8) -> Result<u8, Refusal> {
 fn read_as(out: Stdout, label: &str, chip: u8, image: &mut [u8], address: u8) -> io::Result<()> {
     match asked(chip, image, address) {
         Err(r) => after_refusal(out, r, image),
-        Ok(b) => print!(out; " {label} {b:02X}"),
+        Ok(b) => print!(out; " {label} {}", Byte(b)),
     }
 }
 
@@ -83,7 +83,11 @@ fn stored(out: Stdout, chip: u8, image: &mut [u8], writes: &[(u8, u8)]) -> io::R
     for (address, byte) in writes {
         image.fill(FILL);
         let _ = images::write(chip, image, *address, *byte);
-        print!(out; "stored chip {chip} {address:02X} write {byte:02X}")?;
+        print!(out;
+            "stored chip {chip} {} write {}",
+            Byte(*address),
+            Byte(*byte)
+        )?;
         read(out, chip, image, *address)?;
         println!(out)?;
     }

@@ -1,5 +1,6 @@
 // Where a fan table of chips 4 and 5 stands, whichever bank is selected: `image chip C table T select SS looks at`, then each position where bit 2 of the
 // power-on value, turned over, changes what the table asks. All tables of chip 5 look at 0C5.
+use figures_printing::{Byte, Position};
 use std::io::{self, Stdout};
 
 // What the table asks at each temperature.
@@ -19,7 +20,7 @@ fn list(out: Stdout, chip: u8, table: u8, image: &mut [u8]) -> io::Result<()> {
     for at in 0..image.len() {
         turn(image, at);
         if asked(chip, table, image) != before {
-            print!(out; " {at:03X}")?;
+            print!(out; " {}", Position(at))?;
         }
         turn(image, at);
     }
@@ -32,7 +33,10 @@ fn looks(out: Stdout, chip: u8, table: u8, image: &mut [u8], select_at: usize) -
     if let Some(byte) = image.get_mut(select_at) {
         *byte = select;
     }
-    print!(out; "image chip {chip} table {table} select {select:02X} looks at")?;
+    print!(out;
+        "image chip {chip} table {table} select {} looks at",
+        Byte(select)
+    )?;
     list(out, chip, table, image)?;
     println!(out)
 }

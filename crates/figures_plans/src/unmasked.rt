@@ -1,5 +1,6 @@
 // A table value of chip 5 is its register's writable bits: `image chip 5 table T over BB at T is S` has what is asked of a power-on image with the bits
 // BB set in every byte. 9Eh in a T register is 1Eh, C8h in a duty's 08h; bit 6 is a temperature's.
+use figures_printing::Byte;
 use std::io::{self, Stdout};
 
 fn over(out: Stdout, table: u8, bits: u8) -> io::Result<()> {
@@ -9,7 +10,7 @@ fn over(out: Stdout, table: u8, bits: u8) -> io::Result<()> {
         *byte |= bits;
     }
     for t in crate::temperatures(5) {
-        print!(out; "image chip 5 table {table} over {bits:02X}")?;
+        print!(out; "image chip 5 table {table} over {}", Byte(bits))?;
         crate::end(out, 5, t, plans::asked_of_image(5, table, &image, t))?;
     }
     Ok(())

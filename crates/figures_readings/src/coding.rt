@@ -1,6 +1,6 @@
 // A temperature as steps and as two bytes, in the codings that there are: a line from bytes to steps, one from steps to bytes and back, and one on
 // every word.
-use figures_printing::{Refused, counted};
+use figures_printing::{Refused, Word, counted};
 use refusal::Refusal;
 use std::fmt;
 use std::io::{self, Stdout};
@@ -52,7 +52,7 @@ impl Coding {
 
 // Bytes and the steps that they are, as a line ends.
 pub fn read(out: Stdout, coding: Coding, word: u16) -> io::Result<()> {
-    print!(out; " bytes {word:04X}")?;
+    print!(out; " bytes {}", Word(word))?;
     counted(out, " steps ", coding.steps_of(word))?;
     println!(out)
 }
@@ -70,8 +70,9 @@ pub fn from_steps(out: Stdout, coding: Coding, steps: i16) -> io::Result<()> {
     }
 }
 
-// Of all words in one line: how many come back from their steps, and the sum of the steps in 16 bits.
-pub fn sweep(out: Stdout, coding: Coding) -> io::Result<()> {
+// How many of all words come back from their steps, and the sum of the steps in 16 bits.
+#[inline(always)]
+fn tally(coding: Coding) -> (u32, u16) {
     let mut back: u32 = 0;
     let mut sum: u16 = 0;
     for word in 0..=u16::MAX {
@@ -82,5 +83,14 @@ pub fn sweep(out: Stdout, coding: Coding) -> io::Result<()> {
             sum = sum.wrapping_add(steps.cast_unsigned());
         }
     }
+    (back, sum)
+}
+
+// Of all words in one line. Each coding has its own loop, which doesn't ask at each word which coding it is.
+pub fn sweep(out: Stdout, coding: Coding) -> io::Result<()> {
+    let (back, sum) = match coding {
+        Coding::Width(width) => tally(Coding::Width(width)),
+        Coding::RightAligned => tally(Coding::RightAligned),
+    };
     println!(out; "temperature {coding} words back {back} sum of steps {sum}")
 }

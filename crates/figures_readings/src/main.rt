@@ -7,6 +7,7 @@ mod of_nct7904d;
 mod sensors;
 
 use coding::Coding;
+use figures_printing::Word;
 use std::io::{self, Stdout};
 
 // The rules paper's figures.
@@ -62,7 +63,7 @@ fn temperatures(out: Stdout) -> io::Result<()> {
 fn voltages(out: Stdout) -> io::Result<()> {
     for word in [0x0000, 0x003F, 0x0040, 0x7FFF, 0x8000, 0xFFC0, 0xFFFF] {
         let microvolts = readings::microvolts(word);
-        println!(out; "voltage word {word:04X} microvolts {microvolts}")?;
+        println!(out; "voltage word {} microvolts {microvolts}", Word(word))?;
     }
     Ok(())
 }

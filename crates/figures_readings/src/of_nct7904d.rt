@@ -1,6 +1,7 @@
 // Temperatures of the NCT7904D from bytes to steps, and from steps to bytes and back, and its voltages by the address of the high byte:
 // `temperature right-aligned bytes HHLL steps N`, `temperature right-aligned steps N bytes HHLL steps N`, `voltage input AA bytes HHLL microvolts N`.
 use crate::coding::{Coding, from_bytes, from_steps, sweep};
+use figures_printing::Byte;
 use std::io::{self, Stdout};
 
 // Some figures, the sheet's table of temperatures, and the ends of the bytes: the low bits that do not count as zeros, and as ones.
@@ -24,7 +25,12 @@ fn some_steps(out: Stdout) -> io::Result<()> {
 
 fn voltage(out: Stdout, input: u8, high: u8, low: u8) -> io::Result<()> {
     let microvolts = right_readings::input_microvolts(input, high, low);
-    println!(out; "voltage input {input:02X} bytes {high:02X}{low:02X} microvolts {microvolts}")
+    println!(out;
+        "voltage input {} bytes {}{} microvolts {microvolts}",
+        Byte(input),
+        Byte(high),
+        Byte(low)
+    )
 }
 
 // Every voltage's two addresses, LTD's, and those around them. Then no count, one, all with the reserved bits, and the reserved bits alone.

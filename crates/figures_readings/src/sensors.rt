@@ -5,7 +5,7 @@ ghost use Rattle.pages.specs.Nct80 as nct80;
 ghost use Rattle.figures_readings.specs.Sensors.{sensor_of};
 
 use crate::coding::{self, Coding};
-use figures_printing::FILL;
+use figures_printing::{Byte, FILL};
 use std::io::{self, Stdout};
 use watch::{Behaviour, Watch};
 
@@ -44,8 +44,9 @@ fn on_chip() -> Sensor
 // Both bytes are read from the image, with a watch beside it. No sensor's register is a status register: the reads change neither.
 fn held(out: Stdout, chip: u8, image: &mut [u8], sensor: Sensor) -> io::Result<()> {
     print!(out;
-        "temperature chip {chip} at {:02X} {:02X}",
-        sensor.high, sensor.low
+        "temperature chip {chip} at {} {}",
+        Byte(sensor.high),
+        Byte(sensor.low)
     )?;
     let watch = Watch::new(Behaviour::Default);
     let Ok((high, watch)) = states::read(chip, image, sensor.high, watch) else {

@@ -5,7 +5,7 @@ ghost use Rattle.std.specs.Prelude.{◌≡◌};
 ghost use Rattle.figures_samples.specs.Samples.{in_eight as Samples·in_eight, pointed as Samples·pointed, sloped, stepped as Samples·stepped, seven as Samples·seven, paper_for, muddled_for, all_different, banked_for, counted_for, other_seven, refused_at};
 
 use curves::{NO_SLOPE, NO_STEPS, Plan, SlopeValues, StepValues};
-use figures_printing::{Bytes, Refused};
+use figures_printing::{Byte, Bytes, Refused, Word};
 use refusal::Refusal;
 use std::io::{self, Stdout};
 
@@ -218,14 +218,14 @@ pub fn show(out: Stdout, plan: Plan) -> io::Result<()> {
     let slope = plan.slope;
     let steps = plan.steps;
     print!(out;
-        " points {}{} {:02X}",
+        " points {}{} {}",
         plan.points,
         Bytes(&slope.temperatures),
-        slope.critical
+        Byte(slope.critical)
     )?;
     print!(out; "{}{}", Bytes(&slope.duties), Bytes(&steps.bounds))?;
     for count in steps.counts {
-        print!(out; " {count:04X}")?;
+        print!(out; " {}", Word(count))?;
     }
     Ok(())
 }
@@ -248,6 +248,6 @@ pub fn speed(out: Stdout, chip: u8, asked: Result<u16, Refusal>) -> io::Result<(
     match asked {
         Err(r) => print!(out; " {}", Refused(r)),
         Ok(s) if has_duties(chip) => print!(out; " {s}"),
-        Ok(s) => print!(out; " {s:04X}"),
+        Ok(s) => print!(out; " {}", Word(s)),
     }
 }

@@ -3,7 +3,7 @@
 // `played chip C table T select SS writes N changed` has each position that a whole play changes, and its byte. `shared chip 5 table T`, then for three
 // temperatures `T OLD NEW`: what a table asks before and after a play of table 1, which moves the critical temperature of all six.
 use curves::Plan;
-use figures_printing::{Changes, counted};
+use figures_printing::{Byte, Changes, counted};
 use std::io::{self, Stdout};
 
 fn temperatures(chip: u8) -> [u8; 5] {
@@ -192,7 +192,7 @@ fn played<const N: usize>(out: Stdout, plan: Plan, select: u8, old: &[u8; N]) ->
     let mut new = *old;
     print!(out; "played")?;
     figures_samples::head(out, plan)?;
-    print!(out; " select {select:02X}")?;
+    print!(out; " select {}", Byte(select))?;
     counted(out, " writes ", plays::play(plan, &mut new, 25))?;
     println!(out; " changed{}", Changes { old, new: &new })
 }

@@ -1,7 +1,7 @@
 // A call on a state as a line: `state sample N words WWWW .. RESULT`, `state chip C read AA byte BB RESULT`, `state chip C reset RESULT`,
 // `state chip C write AA BB RESULT`. The result is `changed`, each position that has changed and its byte, and both facts of the watch that the call
 // left. A refused call has `refused R` before it, and no byte.
-use figures_printing::{Changes, Refused, on_off};
+use figures_printing::{Byte, Changes, Refused, Word, on_off};
 use std::io::{self, Stdout};
 use watch::{Behaviour, Watch};
 
@@ -64,7 +64,7 @@ impl<'a> State<'a> {
     pub fn sample(&mut self, out: Stdout, steps: i16, words: [u16; VOLTAGES]) -> io::Result<()> {
         print!(out; "state sample {steps} words")?;
         for word in words {
-            print!(out; " {word:04X}")?;
+            print!(out; " {}", Word(word))?;
         }
         let old = held(self.image);
         let answer = channels::sample(self.image, self.watch, steps, words);
@@ -72,11 +72,11 @@ impl<'a> State<'a> {
     }
 
     pub fn read(&mut self, out: Stdout, chip: u8, address: u8) -> io::Result<()> {
-        print!(out; "state chip {chip} read {address:02X}")?;
+        print!(out; "state chip {chip} read {}", Byte(address))?;
         let old = held(self.image);
         let answer = states::read(chip, self.image, address, self.watch);
         if let Ok((byte, _)) = answer {
-            print!(out; " byte {byte:02X}")?;
+            print!(out; " byte {}", Byte(byte))?;
         }
         self.result(out, &old, answer.map(|(_, watch)| watch))
     }
@@ -98,7 +98,7 @@ impl<'a> State<'a> {
 
     // A write has no watch: its facts are those kept beside.
     pub fn write(&mut self, out: Stdout, chip: u8, address: u8, byte: u8) -> io::Result<()> {
-        print!(out; "state chip {chip} write {address:02X} {byte:02X}")?;
+        print!(out; "state chip {chip} write {} {}", Byte(address), Byte(byte))?;
         let old = held(self.image);
         let watch = self.watch;
         let answer = images::write(chip, self.image, address, byte)
