@@ -11,12 +11,10 @@ use lib.Dec.{ltb, leb}
 use lib.ListN.{length, get_or}
 use Rattle.std.proofs.Common.{Some, None}
 use Rattle.std.specs.List.{IsAllAdjacentAnswer, position, position_or_len, slice_get}
-use Rattle.std.specs.Ordering.{is_some_and, is_le, nat_cmp}
 use Rattle.std.proofs.lemmas.Option.{get_or_from_slice_get, slice_get-get_or, none-some}
 use Rattle.std.proofs.lemmas.Grind.{common_steps}
 use Rattle.std.proofs.lemmas.List.Quantifiers.{position-Some}
 use Rattle.std.proofs.lemmas.List.Sums.{fails_before_first, prefix_len-le-length}
-use Rattle.std.proofs.lemmas.List.Sorted.{non_decreasing_from_is_sorted}
 use Rattle.curves.specs.Curves.{Point, points, mean, above, below, slope, step_rule}
 use Rattle.curves.specs.Orders.{chained, last_at_most}
 
@@ -43,15 +41,6 @@ chained_broken related (a ∷ (b ∷ l)) (suc k) m h = no_rest (related a b) _ (
 pub in_chain : (related : ℕ → ℕ → Bool) (l : List ℕ) (r : Bool) → IsAllAdjacentAnswer (λ x y b. b ≡ related x y) l r → r ≡ chained related l
 in_chain related l true h = chained_all related l (λ k m. rw (add-one k) at (sym (h k 0 (omega arith))))
 in_chain related l false h = chained_broken related l h.0 (omega (arith, h.1)) (rw (add-one h.0) at (sym (h.2 0)))
-
--- what `is_sorted` answers
-pub in_order : (l : List ℕ) (r : Bool) → IsAllAdjacentAnswer (λ x y b. is_some_and is_le (Some (nat_cmp x y)) ≡ b) l r → r ≡ chained leb l
-in_order l true h =
-    let rises = non_decreasing_from_is_sorted l true h in
-    chained_all leb l (λ k m. le-leb (get_or l k 0) (get_or l (suc k) 0) (rises k (suc k) 0 (omega arith) m))
-in_order l false h =
-    let falls = non_decreasing_from_is_sorted l false h in
-    chained_broken leb l falls.0 (omega (arith, falls.1)) (rw (add-one falls.0) at (lt-leb (get_or l falls.0 0) (get_or l (falls.0 + 1) 0) (falls.2 0)))
 
 -- the last of some temperatures, if there is one
 last_at : (l : List ℕ) (n critical : ℕ) → length l ≡ suc n → last_at_most l critical ≡ leb (get_or l n 0) critical

@@ -11,7 +11,7 @@ ghost use Rattle.pages.specs.Rows.{row_in};
 ghost use Rattle.pages.specs.Cards.{row_of};
 ghost use Rattle.pages.specs.Promises.{Finds, PowersOn, Requires, Stands, Lays};
 
-use pages::{Ground, Layout, Masks, NO_GROUND, NOTHING, Required, Shape, one_row};
+use pages::{Ground, Layout, Masks, NO_GROUND, NO_MASKS, NOTHING, Required, Shape, one_row};
 use power_on::POWER_ON;
 use writable::WRITABLE;
 
@@ -20,7 +20,7 @@ use writable::WRITABLE;
 fn writable_at(position: usize) -> u8
     ensures { result ≡ (row_of F75373s position).writable }
 {
-    WRITABLE.get(position).copied().unwrap_or(0x00)
+    WRITABLE.get(position).copied().unwrap_or(NO_MASKS.writable)
 }
 
 // The interrupt status registers alone have bits that clear on one.

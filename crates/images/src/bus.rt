@@ -28,6 +28,7 @@ pub(crate) fn position(chip: Chip, image: &[u8], address: u8) -> usize
 }
 
 // Every writable bit gets its power-on value, and the others stay, also those that clear on one.
+#[tactic(auto, unfolding(crate::specs::Bytes::stored))]
 fn initialize(chip: Chip, image: &mut [u8])
     ensures { image.new ≡ initialized chip image.old }
 {

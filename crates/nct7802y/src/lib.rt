@@ -9,7 +9,7 @@ ghost use Rattle.pages.specs.declared.Chip.TheVariants.{Nct7802y};
 ghost use Rattle.pages.specs.Cards.{row_of};
 ghost use Rattle.pages.specs.Promises.{Finds, PowersOn, Requires, Stands, Lays};
 
-use pages::{Ground, Layout, Masks, NO_GROUND, NOTHING, Required, Shape, one_row};
+use pages::{Ground, Layout, Masks, NO_GROUND, NO_MASKS, NOTHING, Required, Shape, one_row};
 use power_on::POWER_ON;
 use writable::WRITABLE;
 
@@ -18,7 +18,7 @@ use writable::WRITABLE;
 fn writable_at(position: usize) -> u8
     ensures { result ≡ (row_of Nct7802y position).writable }
 {
-    WRITABLE.get(position).copied().unwrap_or(0x00)
+    WRITABLE.get(position).copied().unwrap_or(NO_MASKS.writable)
 }
 
 #[tactic(auto, using(pages::proofs::Lines::clearless), unfolding(pages::specs::Cards::sheet_of, pages::specs::Nct7802y::card))]
