@@ -73,5 +73,6 @@ pub(crate) fn end(output: &mut Output<'_>, plans: usize)
     requires { InRange (end_line plans) output.old }
     ensures { Adds (end_line plans) output.old output.new }
 {
-    output.last_field(b"end ", plans);
+    output.field(b"end ", plans);
+    output.append(b"\n");
 }
